@@ -1,0 +1,2 @@
+pub mod Fips197
+pub mod Example

@@ -1,0 +1,20 @@
+-- Sixteen blocks side by side, byte p of block l at place 16 p + l of 256 bytes.
+-- Assumes nothing.
+use mathlib.Core.Path.{_≡_}
+use mathlib.Core.List.{List}
+use Prim.Native.Nat.{ℕ, _+_, _*_, _-_, _/_, _%_, _^_, _<_}
+use lib.ListN.{length, getD}
+use Rattle.lists.specs.Tab.{tab}
+
+-- Block l of the sixteen.
+unfoldable pub lane : List ℕ → ℕ → List ℕ
+lane s l = tab 16 (λ p. getD s (16 * p + l) 0)
+
+-- r holds sixteen blocks, of which block l is g l.
+pub record Lanes (r : List ℕ) (g : ℕ → List ℕ) : Type 0 where
+  pub long : length r ≡ 256
+  pub each : (l : ℕ) → l < 16 → lane r l ≡ g l
+
+-- Document 01, Hash and streams: j as a 16-byte big-endian number.
+unfoldable pub counter : ℕ → List ℕ
+counter j = tab 16 (λ i. j / 2 ^ (8 * (15 - i)) % 256)

@@ -1,0 +1,20 @@
+-- `byte` widens the byte, which is below 256. Assumes nothing.
+use native.Mathlib.Omega.{arith}
+use mathlib.Core.Path.{refl}
+use borrow.Author.Needs.{needs}
+use Rattle.bytes4.proofs.byte.Statement.{statement}
+use Rattle.bytes4.proofs.byte.Tie as tie
+use Rattle.bytes4.proofs.byte.Reads as reads
+use Rattle.bytes4.proofs.byte.Lts as lts
+
+shared-slice-read-result : tie.Need-shared-slice-read-result
+shared-slice-read-result c = search needs
+
+cast-result : tie.Need-cast-result
+cast-result c = omega (arith, c .shared-slice-known .given (c .before .args .at))
+
+returns : tie.Need-returns
+returns c = record { is = refl; small = omega (arith, c .shared-slice-known .given (c .before .args .at)) }
+
+pub byte-spec : {M : Type 1} → statement M
+byte-spec = tie.close (tie.spec shared-slice-read-result cast-result returns)

@@ -1,0 +1,54 @@
+-- `put32` stores the four digits. Assumes nothing.
+use Rattle.lists.specs.Bytes.{le4}
+use Rattle.lists.specs.ReadingExtra.{four-stored}
+use borrow.Author.Needs.{needs}
+use Rattle.bytes4.proofs.put32.Statement.{statement}
+use Rattle.bytes4.proofs.put32.Tie as tie
+use Rattle.bytes4.proofs.put32.Reads as reads
+use Rattle.bytes4.proofs.put32.Lts as lts
+
+cast-out : tie.Need-cast-out
+cast-out c = search needs
+
+slice-write-out : tie.Need-slice-write-out
+slice-write-out c = search needs
+
+cast-out-2 : tie.Need-cast-out-2
+cast-out-2 c = search needs
+
+slice-write-out-2 : tie.Need-slice-write-out-2
+slice-write-out-2 c = search needs
+
+cast-out-3 : tie.Need-cast-out-3
+cast-out-3 c = search needs
+
+slice-write-out-3 : tie.Need-slice-write-out-3
+slice-write-out-3 c = search needs
+
+cast-out-4 : tie.Need-cast-out-4
+cast-out-4 c = search needs
+
+slice-write-out-4 : tie.Need-slice-write-out-4
+slice-write-out-4 c = search needs
+
+same-length : tie.Need-same-length
+same-length c = search needs
+
+returns : tie.Need-returns
+unfolding le4
+returns c = four-stored (c .args .out .now) _ _ _ _ (c .pre)
+
+pub put32-spec : {M : Type 1} → statement M
+put32-spec =
+    tie.close
+    (tie.spec
+    cast-out
+    slice-write-out
+    cast-out-2
+    slice-write-out-2
+    cast-out-3
+    slice-write-out-3
+    cast-out-4
+    slice-write-out-4
+    same-length
+    returns)

@@ -1,0 +1,10 @@
+pub mod Tab
+pub mod Test
+pub mod Index
+pub mod Bytes
+pub mod Check
+pub mod CatLaws
+pub mod TestLaws
+pub mod Inj
+pub mod StreamsExtra
+pub mod ReadingExtra

@@ -1,0 +1,7 @@
+pub mod Mod
+pub mod Sum
+pub mod Prime
+pub mod Inverse
+pub mod Output
+pub mod Cases
+pub mod Residue

@@ -1,0 +1,31 @@
+-- The lengths of the padded message and of the digest. Assumes nothing.
+use mathlib.Core.Path.{_≡_, refl}
+use mathlib.Core.List.{List, [], _∷_, _++_}
+use Prim.Native.Nat.{ℕ, zero, suc, _+_, _*_, _/_, _%_}
+use native.Mathlib.Numerals.{add-one}
+use native.Mathlib.Omega.{arith}
+use lib.ListN.{length, length-append, length-replicate, getD, replicate}
+use Rattle.sha_core.specs.Fips180.{be, zeros, pad, bytes, sha256}
+
+pub be-length : (n x : ℕ) → length (be n x) ≡ n
+unfolding be
+be-length zero x = refl
+be-length (suc n) x = rw (length-append, be-length n (x / 256)) (add-one n)
+
+-- FIPS 180-4, 5.1.1: a padded message is whole blocks
+pub pad-whole : (m : List ℕ) → length (pad m) % 64 ≡ 0
+unfolding pad
+pad-whole m =
+    let a = length-append (m ++ (0x80 ∷ replicate (zeros (length m)) 0)) (be 8 (length m * 8)) in
+    let b = length-append m (0x80 ∷ replicate (zeros (length m)) 0) in
+    let c : length (replicate (zeros (length m)) 0) ≡ zeros (length m) = length-replicate _ 0 in
+    omega (arith, a, b, c, be-length 8 (length m * 8))
+
+pub bytes-length : (n : ℕ) (h : List ℕ) → length (bytes n h) ≡ 4 * n
+unfolding bytes
+bytes-length zero h = refl
+bytes-length (suc n) h = rw (length-append, bytes-length n h, be-length 4 (getD h n 0)) (omega arith)
+
+pub sha256-length : (m : List ℕ) → length (sha256 m) ≡ 32
+unfolding sha256
+sha256-length m = bytes-length 8 _
