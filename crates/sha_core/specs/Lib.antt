@@ -1,3 +1,4 @@
 pub mod Fips180
 pub mod Examples
 pub mod Filled
+pub mod Digest

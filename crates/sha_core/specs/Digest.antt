@@ -18,7 +18,8 @@ unfolding pad
 pad-whole m =
     let a = length-append (m ++ (0x80 ∷ replicate (zeros (length m)) 0)) (be 8 (length m * 8)) in
     let b = length-append m (0x80 ∷ replicate (zeros (length m)) 0) in
-    let c : length (replicate (zeros (length m)) 0) ≡ zeros (length m) = length-replicate _ 0 in
+    let z : List ℕ = replicate (zeros (length m)) 0 in
+    let c : length z ≡ zeros (length m) = length-replicate _ 0 in
     omega (arith, a, b, c, be-length 8 (length m * 8))
 
 pub bytes-length : (n : ℕ) (h : List ℕ) → length (bytes n h) ≡ 4 * n

@@ -1,0 +1,60 @@
+-- `at_most` stops at the first entry above. Invariant: those before j are not. Assumes nothing.
+use Prim.Native.Nat.{ℕ, _+_, _≤_, _-_}
+use mathlib.Core.Path.{_≡_, sym, _∙_}
+use mathlib.Core.Bool.{true}
+use native.Mathlib.Omega.{arith}
+use lib.ListN.{length, getD}
+use Rattle.lists.specs.Index.{every}
+use Rattle.lists.specs.TestLaws.{every-zero, every-next, every-stops}
+use lib.Dec.{leb}
+use borrow.Author.Tests.{le-leb, lt-leb}
+use borrow.Author.Needs.{needs}
+use Rattle.forms.proofs.at_most.Statement.{statement}
+use Rattle.forms.proofs.at_most.Tie as tie
+use Rattle.forms.proofs.at_most.Reads as reads
+use Rattle.forms.proofs.at_most.Lts as lts
+
+abbrev Inv-loop : tie.InvT-loop
+Inv-loop x top j₀ j = (j ≤ length x) × (every j (λ i. leb (getD x i 0) top) ≡ true)
+
+abbrev μ-loop : tie.MeasureT-loop
+μ-loop x top j₀ j = length x - j
+
+loop-holds : tie.Need-loop-holds Inv-loop μ-loop
+loop-holds c = (search needs, every-zero _)
+
+shared-slice-read-if1 : tie.Need-shared-slice-read-if1 Inv-loop μ-loop
+shared-slice-read-if1 c = search needs
+
+cast-if1 : tie.Need-cast-if1 Inv-loop μ-loop
+cast-if1 c = omega (arith, c .shared-slice-known .given (c .before .before .loop .j))
+
+returns : tie.Need-returns Inv-loop μ-loop
+returns c = sym (every-stops _ _ (c .before .before .before .loop .j) (omega arith) (lt-leb _ _ (c .if1 .taken)))
+
+add-j : tie.Need-add-j Inv-loop μ-loop
+add-j c = search needs
+
+loop-less : tie.Need-loop-less Inv-loop μ-loop
+loop-less c = search needs
+
+loop-again : tie.Need-loop-again Inv-loop μ-loop
+loop-again c = (search needs, every-next _ _ (c .before .before .before .loop .inv .1) ∙ le-leb _ _ (c .if1 .left))
+
+returns-2 : tie.Need-returns-2 Inv-loop μ-loop
+returns-2 c = let e : c .before .loop .j ≡ length (c .before .before .args .x .now) = omega arith in sym (rw e at (c .before .loop .inv .1))
+
+pub at-most-spec : {M : Type 1} → statement M
+at-most-spec =
+    tie.close
+    (tie.spec
+    Inv-loop
+    μ-loop
+    loop-holds
+    shared-slice-read-if1
+    cast-if1
+    returns
+    add-j
+    loop-less
+    loop-again
+    returns-2)

@@ -1,0 +1,17 @@
+-- `is_binary` is `at_most` 1. Assumes nothing.
+use Rattle.forms.proofs.Laws.{binary-of}
+use borrow.Author.Needs.{needs}
+use Rattle.forms.proofs.is_binary.Statement.{statement}
+use Rattle.forms.proofs.is_binary.Tie as tie
+use Rattle.forms.proofs.is_binary.Reads as reads
+use Rattle.forms.proofs.is_binary.Lts as lts
+use Rattle.forms.proofs.at_most.Reads as at-most-reads
+
+at-most-requires : tie.Need-at-most-requires
+at-most-requires c κs = search needs
+
+returns : tie.Need-returns
+returns c = λ K e. binary-of K (c .before .before .args .secret .now) e (c .at-most .ensures)
+
+pub is-binary-spec : {M : Type 1} → statement M
+is-binary-spec = tie.close (tie.spec at-most-requires returns)

@@ -1,0 +1,191 @@
+-- Honest acceptance: a transcript made of the prover's own messages is accepted, whichever valid challenges came.
+-- Assumes nothing.
+use Prim.Native.Nat.{ℕ, zero, suc, _+_, _-_, _%_, _<_}
+use mathlib.Core.Path.{_≡_, refl, sym, _∙_, ap, subst}
+use mathlib.Core.Bool.{Bool, true, false, not}
+use mathlib.Core.List.{List, [], _++_}
+use native.Mathlib.Omega.{arith}
+use borrow.Author.Tests.{eqb-false, eq-eqb, lt-ltb}
+use lib.Dec.{eqb, ltb}
+use lib.ListN.{length, getD, take}
+use Rattle.lists.specs.Index.{pick, cat, every, same}
+use Rattle.lists.specs.Check.{accepted, first}
+use Rattle.lists.specs.CatLaws.{cat-ext}
+use Rattle.lists.specs.TestLaws.{Clean, clean, cleared, clean-left, clean-right, clean-append, cat-clean, every-all, same-of, pick-true, pick-false}
+use Rattle.numbers.specs.Sum.{sum}
+use Rattle.protocol.specs.Key.{Key, keyOf, keyChecks}
+use Rattle.protocol.specs.Shares.{H, input, View, Γ, Γin, hin, Ωin, Πin, Ψin, o, dealt}
+use Rattle.protocol.specs.Prover.{opened, kept, hiddenOf, proverView, master, hΓin, hπin, hψin, message1, message5, checks7}
+use Rattle.protocol.specs.Transcript.{Parts, sizes, list, transcript}
+use Rattle.protocol.specs.Honest.{honestParts}
+use Rattle.protocol.specs.Judge.{hidden, givenCount, replySize, given, ΩAt, hπAt, openedView, keptView, view, goodNumbers, formChecks, executionChecks, hashChecks, partsChecks, runChecks, judge}
+use Rattle.protocol.proofs.KeyFacts.{Good, good}
+use Rattle.protocol.proofs.Opened.{E-length}
+use Rattle.protocol.proofs.HonestSum.{dealt-zero}
+use Rattle.protocol.proofs.Sees.{Sees, sees-hin, sees-Ωin, sees-Πin, sees-Ψin, sees-sum}
+use Rattle.protocol.proofs.Sizes.{message1-length, message3-length, message5-length, message7-length, replies-most, hidden-length}
+use Rattle.protocol.proofs.Header.{item, before, parts-back, header-good}
+use Rattle.protocol.proofs.HonestParts.{Valid, valid, master-at, Ω-at, hπ-at, κ-at, sizes-are, sees, given-lt}
+
+-- h(e) does not depend on the secret.
+hin-secret : (K : Key) (e : ℕ) (seed : List ℕ) (x y : ℕ → ℕ) → hin K (dealt K e seed x) ≡ hin K (dealt K e seed y)
+unfolding hin Γ Γin dealt
+hin-secret K e seed x y = refl
+
+module _ (K : Key) (seeds secret E κ L hid : List ℕ) (G : Good K) (I : Valid K seeds secret E κ L hid) where
+  abbrev P : Parts
+  P = honestParts K seeds secret E κ L hid
+
+  abbrev whole : ℕ → View
+  whole e = proverView K seeds secret e
+
+  abbrev seen : (e : ℕ) → e < K .M → opened E e ≡ false → Sees K L (whole e) (keptView K P e)
+  seen = sees K seeds secret E κ L hid G I
+
+  -- 7, 10, 13, 14
+  seven-long : length (P .p7) ≡ 16 + sum (K .M) (replySize K P)
+  seven-long =
+      message7-length K seeds secret E L hid (I .E-good) (I .hidden-good) κ (I .κ-long)
+      ∙ ap (λ x. 16 + x) (sym (sizes-are K seeds secret E κ L hid G I (K .M)))
+
+  numbers-good : goodNumbers K P ≡ true
+  unfolding goodNumbers
+  numbers-good = every-all (K .M) _ (λ e h. go e h (opened E e) refl)
+    where
+      go : (e : ℕ) → e < K .M → (t : Bool) → opened E e ≡ t → pick t true (every (givenCount K P e) (λ j. ltb (given K P e j) (K .q))) ≡ true
+      go e h true c = refl
+      go e h false c = every-all (givenCount K P e) _ (λ j y. lt-ltb _ _ (given-lt K seeds secret E κ L hid G I e h c j y))
+
+  form-clean : Clean (formChecks K P)
+  unfolding formChecks
+  form-clean = (ap not (I .E-good), (ap not (I .hidden-good), (ap not (eq-eqb _ _ seven-long), (ap not numbers-good, tt))))
+
+  -- 16, 15
+  whole-zero : (e : ℕ) → sum (K .N) (o K (whole e) L) % K .q ≡ 0
+  unfolding proverView
+  whole-zero e = dealt-zero K e (master K seeds secret e) (λ k. getD secret k 0) (G .q) (G .N) L (I .solution)
+
+  execution-clean : (e : ℕ) → e < K .M → opened E e ≡ false → Clean (executionChecks K P e)
+  unfolding executionChecks hidden keptView
+  execution-clean e h c = (
+    ap not (Ω-same (eqb (suc (hiddenOf E hid e)) (K .N)) refl),
+    (ap not (eq-eqb _ _ (ap (λ x. x % K .q) (sees-sum K L _ _ (seen e h c)) ∙ whole-zero e)), tt),
+  )
+    where
+      Ω-same : (t : Bool) → eqb (suc (hiddenOf E hid e)) (K .N) ≡ t → pick t true (same (ΩAt K P e) (H (Ωin K (keptView K P e)))) ≡ true
+      Ω-same true y = refl
+      Ω-same false y =
+          same-of (Ω-at K seeds secret E κ L hid G I e h c ∙ ap H (sym (sees-Ωin K L _ _ (seen e h c) (eqb-false _ _ y))))
+
+  executions-clean : Clean (cat (K .M) (λ e. pick (opened E e) [] (executionChecks K P e)))
+  executions-clean = cat-clean (K .M) _ (λ e h. go e h (opened E e) refl)
+    where
+      go : (e : ℕ) → e < K .M → (t : Bool) → opened E e ≡ t → Clean (pick t [] (executionChecks K P e))
+      go e h true c = tt
+      go e h false c = execution-clean e h c
+
+  -- 17, 18, 19
+  view-kept : (e : ℕ) → opened E e ≡ false → view K P e ≡ keptView K P e
+  unfolding view
+  view-kept e c = pick-false (opened E e) (openedView K P e) (keptView K P e) c
+
+  view-opened : (e : ℕ) → opened E e ≡ true → view K P e ≡ openedView K P e
+  unfolding view
+  view-opened e c = pick-true (opened E e) (openedView K P e) (keptView K P e) c
+
+  hin-view : (e : ℕ) → e < K .M → hin K (view K P e) ≡ hin K (proverView K seeds [] e)
+  unfolding openedView proverView
+  hin-view e h = go (opened E e) refl
+    where
+      go : (t : Bool) → opened E e ≡ t → hin K (view K P e) ≡ hin K (proverView K seeds [] e)
+      go true c =
+          ap (hin K) (view-opened e c) ∙ ap (λ x. hin K (dealt K e x (λ k. 0))) (master-at K seeds secret E κ L hid G I e h c)
+      go false c =
+          ap (hin K) (view-kept e c) ∙ sees-hin K L _ _ (seen e h c) ∙ hin-secret K e (master K seeds secret e) _ _
+
+  hΓ-same : P .p1 ≡ H (hΓin K (view K P))
+  unfolding message1 hΓin
+  hΓ-same = ap (λ x. H (input 1 0 0 x)) (cat-ext (K .M) (λ e h. ap H (sym (hin-view e h))))
+
+  -- What is joined of the kept executions.
+  kept-same : (f g : ℕ → List ℕ) → ((e : ℕ) → e < K .M → opened E e ≡ false → f e ≡ g e) → kept K E f ≡ kept K E g
+  unfolding kept
+  kept-same f g same = cat-ext (K .M) (λ e h. go e h (opened E e) refl)
+    where
+      go : (e : ℕ) → e < K .M → (t : Bool) → opened E e ≡ t → pick t [] (f e) ≡ pick t [] (g e)
+      go e h true c = refl
+      go e h false c = same e h c
+
+  hπ-same : hπAt K P ≡ H (hπin K (view K P) E (take 16 (P .p7)))
+  unfolding hπin
+  hπ-same =
+      hπ-at K seeds secret E κ L hid G I
+      ∙ ap (λ x. H (input 5 0 0 x))
+      (kept-same _ _ (λ e h c. ap H
+      (sym (ap (λ v. Πin K v (take 16 (P .p7))) (view-kept e c) ∙ sees-Πin K L _ _ (seen e h c) (take 16 (P .p7))
+      ∙ ap (Πin K (whole e)) (κ-at K seeds secret E κ L hid G I)))))
+
+  hψ-same : P .p5 ≡ H (hψin K (view K P) E (take 16 (P .p7)) L)
+  unfolding message5 hψin
+  hψ-same =
+      ap (λ x. H (input 7 0 0 x))
+      (kept-same _ _ (λ e h c. ap H
+      (sym (ap (λ v. Ψin K v (take 16 (P .p7)) L) (view-kept e c) ∙ sees-Ψin K L _ _ (seen e h c) (take 16 (P .p7))
+      ∙ ap (λ x. Ψin K (whole e) x L) (κ-at K seeds secret E κ L hid G I)))))
+
+  hash-clean : Clean (hashChecks K P)
+  unfolding hashChecks
+  hash-clean = (ap not (same-of hΓ-same), (ap not (same-of hπ-same), (ap not (same-of hψ-same), tt)))
+
+  parts-clean : Clean (partsChecks K P)
+  unfolding partsChecks
+  parts-clean =
+      clean-append (formChecks K P ++ cat (K .M) (λ e. pick (opened E e) [] (executionChecks K P e))) (hashChecks K P)
+      (clean-append (formChecks K P) _ form-clean executions-clean) hash-clean
+
+  -- 12
+  six-long : (i : ℕ) → i < 6 → length (item P i) ≡ getD (sizes K) i 0
+  unfolding list sizes
+  six-long zero h = message1-length K seeds
+  six-long (suc zero) h = E-length K E (I .E-good)
+  six-long (suc (suc zero)) h = message3-length K seeds secret E κ (I .seeds-long) (I .E-good)
+  six-long (suc (suc (suc zero))) h = I .L-long
+  six-long (suc (suc (suc (suc zero)))) h = message5-length K seeds secret E κ L
+  six-long (suc (suc (suc (suc (suc zero))))) h = hidden-length K hid (I .hidden-good)
+  six-long (suc (suc (suc (suc (suc (suc i)))))) h = absurd (omega arith)
+
+  pub small : 56 + before P 7 < 4294967296
+  unfolding list sum
+  small =
+      omega (
+        arith,
+        message1-length K seeds,
+        E-length K E (I .E-good),
+        message3-length K seeds secret E κ (I .seeds-long) (I .E-good),
+        I .L-long,
+        message5-length K seeds secret E κ L,
+        hidden-length K hid (I .hidden-good),
+        message7-length K seeds secret E L hid (I .E-good) (I .hidden-good) κ (I .κ-long),
+        replies-most K G E hid,
+        G .M-most,
+        G .τ-below,
+      )
+
+  run-clean : Clean (runChecks K (transcript P))
+  unfolding runChecks
+  run-clean =
+      (ap not (header-good P small K six-long), subst (λ (R : Parts). Clean (partsChecks K R)) (sym (parts-back P small)) parts-clean)
+
+-- Every transcript made of the prover's messages, for inputs that its checks pass, is accepted.
+pub honest-accepted : (key seeds secret E κ L hid : List ℕ)
+    → first (keyChecks (keyOf key) key ++ checks7 (keyOf key) seeds secret E κ L hid) ≡ accepted
+    → judge key (transcript (honestParts (keyOf key) seeds secret E κ L hid)) ≡ accepted
+unfolding judge
+honest-accepted key seeds secret E κ L hid e =
+    let c = clean (keyChecks (keyOf key) key ++ checks7 (keyOf key) seeds secret E κ L hid) e in
+    let k = clean-left (keyChecks (keyOf key) key) (checks7 (keyOf key) seeds secret E κ L hid) c in
+    let G : Good (keyOf key) = good (keyOf key) key k in
+    cleared _
+    (clean-append (keyChecks (keyOf key) key) _ k
+    (run-clean (keyOf key) seeds secret E κ L hid G
+    (valid (keyOf key) seeds secret E κ L hid G (clean-right (keyChecks (keyOf key) key) _ c))))

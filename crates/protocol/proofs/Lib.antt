@@ -1,0 +1,16 @@
+pub mod Acceptance
+pub mod Demand3
+pub mod Demand3Lengths
+pub mod Demand3Links
+pub mod Facts
+pub mod Header
+pub mod HonestParts
+pub mod HonestSum
+pub mod KeyFacts
+pub mod Opened
+pub mod Pairing
+pub mod Reply
+pub mod Sees
+pub mod Sizes
+pub mod Witness
+pub mod Demand3Witness

@@ -1,0 +1,9 @@
+pub mod Accepts
+pub mod Demand3
+pub mod Honest
+pub mod Judge
+pub mod Key
+pub mod Pair
+pub mod Prover
+pub mod Shares
+pub mod Transcript

@@ -1,0 +1,3 @@
+// The protocol of document 01: its definitions are in specs/, what is proved of them is the contracts of these functions.
+pub mod honest;
+pub mod pairs;
