@@ -9,8 +9,9 @@ use Rattle.lists.specs.Index.{pick, member}
 use Rattle.numbers.specs.Inverse.{qs}
 use Rattle.streams.specs.Streams.{number}
 
-unfoldable pub answer : ℕ → ℕ → ℕ → ℕ
-answer q seed long = pick (member q qs) (pick (eqb seed 16) (pick (leb long 4294967295) 0 11) 6) 2
+unfoldable pub answer : ℕ → ℕ → ℕ → ℕ → ℕ
+answer q seed long c =
+    pick (member q qs) (pick (eqb seed 16) (pick (leb long 4294967295) (pick (leb c 4611686018427387903) 0 11) 11) 6) 2
 
 abbrev pub written : ℕ → List ℕ → ℕ → ℕ → List ℕ → List ℕ
 written zero seed c q out = tab (length out) (number q seed c)

@@ -49,10 +49,10 @@ pub extern "C" fn badge_sixteen(w: &[u8; 176], blocks: &[u8; 256], out: &mut [u8
 }
 
 // Numbers of a 16-byte seed from block `first` on, as many as out has places: 0; or 2 where q is no modulus of a key, 6 where the seed has
-// another length, 11 where out has 2^32 places or more, and out is untouched then.
+// another length, 11 where out has 2^32 places or more or `first` is 2^62 or more, and out is untouched then.
 #[no_mangle]
-pub extern "C" fn badge_numbers(seed: &[u8], first: u32, q: u32, out: &mut [u32]) -> u32
-    ensures { λ r. ⌜ r ≡ answer q (length (now (seed .entry))) (length (now (out .entry))) ⌝ }
+pub extern "C" fn badge_numbers(seed: &[u8], first: u64, q: u32, out: &mut [u32]) -> u32
+    ensures { λ r. ⌜ r ≡ answer q (length (now (seed .entry))) (length (now (out .entry))) first ⌝ }
     ensures { λ r. ⌜ now (out .exit) ≡ written r (now (seed .entry)) first q (now (out .entry)) ⌝ }
 {
     if !numbers::is_modulus(q) {
@@ -64,6 +64,9 @@ pub extern "C" fn badge_numbers(seed: &[u8], first: u32, q: u32, out: &mut [u32]
     if out.len() > 4294967295 {
         return 11;
     }
-    streams::fill(seed, first as u64, q, out);
+    if first > 4611686018427387903 {
+        return 11;
+    }
+    streams::fill(seed, first, q, out);
     0
 }

@@ -124,7 +124,7 @@ fn from_block(w: &[u8; 176], j: u64, q: u32, out: &mut [u32])
 pub fn fill(seed: &[u8], c: u64, q: u32, out: &mut [u32])
     requires { ⌜ length (now seed) ≡ 16 ⌝ }
     requires { ⌜ Member q qs ⌝ }
-    requires { ⌜ c < 2 ^ 32 ⌝ }
+    requires { ⌜ c < 2 ^ 62 ⌝ }
     requires { ⌜ length (now out) < 2 ^ 32 ⌝ }
     ensures { λ _. ⌜ now (out .exit) ≡ tab (length (now (out .entry))) (number q (now (seed .entry)) c) ⌝ }
 {
