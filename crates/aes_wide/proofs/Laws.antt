@@ -4,7 +4,7 @@ use mathlib.Core.Path.{_≡_, refl, sym, ap, _∙_, subst}
 use mathlib.Core.List.{List}
 use Prim.Native.Nat.{ℕ, _+_, _*_, _-_, _/_, _%_, _^_, _≤_, _<_}
 use native.Mathlib.Decide.{ℕ-discrete, decLt}
-use native.Mathlib.Nat.{add-zero, div-eq-of-lt, lt-of-lt-of-le}
+use native.Mathlib.Nat.{div-eq-of-lt, lt-of-lt-of-le}
 use native.Mathlib.Numerals.{add-one}
 use native.Mathlib.Omega.{arith}
 use lib.Bits.{bitXor}
@@ -135,13 +135,13 @@ columns-end {r} {c} {g} so h size =
 
 -- ---- the steps of the cipher in one block
 
-pub counter-size : (j : ℕ) → length (counter j) ≡ 16
-unfolding counter
-counter-size j = tab-length 16 (λ i. j / 2 ^ (8 * (15 - i)) % 256)
-
 pub counter-at : (j p : ℕ) → p < 16 → j / 2 ^ (8 * (15 - p)) % 256 ≡ getD (counter j) p 0
 unfolding counter
 counter-at j p h = sym (tab-at 16 (λ i. j / 2 ^ (8 * (15 - i)) % 256) p h)
+
+pub counter-size : (j : ℕ) → length (counter j) ≡ 16
+unfolding counter
+counter-size j = tab-length 16 (λ i. j / 2 ^ (8 * (15 - i)) % 256)
 
 -- The upper 8 bytes of a number of 64 bits are 0.
 pub counter-upper : (j p : ℕ) → p < 8 → j < 2 ^ 64 → 0 ≡ j / 2 ^ (8 * (15 - p)) % 256

@@ -11,7 +11,6 @@ ghost use lib.ListN.{length, getD};
 ghost use Rattle.lists.specs.Index.{every};
 ghost use Rattle.numbers.specs.Inverse.{Member, qs};
 ghost use Rattle.numbers.specs.Sum.{sum};
-ghost use Rattle.numbers.specs.Residue.{Residue};
 ghost use Rattle.protocol.specs.Key.{Key, keyOf};
 ghost use Rattle.protocol.specs.Prover.{opened, goodE, goodHidden, solves, binary};
 ghost use Rattle.key.specs.Numbers.{Of, Read};

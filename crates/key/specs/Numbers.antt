@@ -1,11 +1,11 @@
 -- A key's six numbers as code carries them, and the limits of a key that is accepted.
 -- Assumes nothing.
-use Prim.Native.Nat.{ℕ, _+_, _*_, _≤_, _<_}
+use Prim.Native.Nat.{ℕ, _+_, _*_, _^_, _≤_, _<_}
 use mathlib.Core.Path.{_≡_, refl}
 use mathlib.Core.List.{List}
 use lib.ListN.{length, getD}
 use Rattle.numbers.specs.Inverse.{Member, qs, Ns}
-use Rattle.protocol.specs.Key.{Key, entries, keyOf}
+use Rattle.protocol.specs.Key.{Key, depth, keyOf}
 use Rattle.key.specs.declared.Numbers.{Numbers}
 
 -- k holds the numbers of K.
@@ -39,6 +39,12 @@ pub record Read (x : List ℕ) (k : Numbers) : Type 0 where
   pub within : Limits k
   pub long : length x ≡ 24 + 4 * (k .n * (k .m + 1))
   pub below : (j : ℕ) → j < k .n * (k .m + 1) → keyOf x .entry j < k .q
+
+-- r is log2 of the number p of parties, the depth of a seed tree.
+pub record Depth (p r : ℕ) : Type 0 where
+  pub most : r ≤ 5
+  pub power : 2 ^ r ≡ p
+  pub is : (K : Key) → K .N ≡ p → r ≡ depth K
 
 -- The key that the numbers k and a list of entries make.
 abbrev pub keyWith : Numbers → List ℕ → Key

@@ -8,7 +8,7 @@ use refusals::KEY_MODULUS;
 use refusals::KEY_SHORT;
 ghost use mathlib.Core.Path.{_≡_};
 ghost use mathlib.Core.List.{_++_};
-ghost use Prim.Native.Nat.{_+_, _*_, _^_, _≤_};
+ghost use Prim.Native.Nat.{_+_, _*_, _≤_};
 ghost use lib.Dec.{ltb};
 ghost use lib.ListN.{length, drop};
 ghost use Rattle.lists.specs.Tab.{tab};
@@ -17,8 +17,8 @@ ghost use Rattle.lists.specs.Bytes.{num};
 ghost use Rattle.lists.specs.Check.{accepted, first};
 ghost use Rattle.numbers.specs.Inverse.{qs, Ns, Member};
 ghost use Rattle.refusals.specs.Number.{numberOf};
-ghost use Rattle.protocol.specs.Key.{Key, entries, depth, keyOf, limits, keyChecks};
-ghost use Rattle.key.specs.Numbers.{Of, Read};
+ghost use Rattle.protocol.specs.Key.{Key, entries, keyOf, limits, keyChecks};
+ghost use Rattle.key.specs.Numbers.{Of, Read, Depth};
 
 // q, n, m, N, M, τ.
 pub struct Numbers {
@@ -202,7 +202,7 @@ pub fn entries(key: &[u8], at: &mut [u32])
 // log2 N.
 pub fn depth(parties: usize) -> usize
     requires { ⌜ Member parties Ns ⌝ }
-    ensures { λ r. ⌜ (2 ^ r ≡ parties) × ((K : Key) → K .N ≡ parties → r ≡ depth K) ⌝ }
+    ensures { λ r. ⌜ Depth parties r ⌝ }
 {
     if parties == 2 {
         return 1;

@@ -4,6 +4,7 @@ pub mod Honest
 pub mod Judge
 pub mod Key
 pub mod Pair
+pub mod Cases
 pub mod Prover
 pub mod Shares
 pub mod Transcript

@@ -1,7 +1,7 @@
 -- Document 01, Hash and streams: blocks and numbers of a seed.
 -- Assumes nothing.
 use Prim.Native.Nat.{ℕ, _+_, _*_, _/_, _%_, _<_}
-use mathlib.Core.Path.{_≡_}
+use mathlib.Core.Path.{_≡_, refl}
 use mathlib.Core.List.{List}
 use native.Mathlib.Nat.{mod-lt}
 use lib.ListN.{getD, length}
@@ -40,3 +40,8 @@ number-lt h seed c j = mod-lt _ h
 pub draw-lt : {q : ℕ} → 0 < q → (seed : List ℕ) (c n j : ℕ) → draw q seed c n j < q
 unfolding draw
 draw-lt h seed c n j = number-lt h seed c j
+
+-- By document 01's rule a draw's numbers are those of the seed.
+pub draw-is : (q : ℕ) (seed : List ℕ) (c n j : ℕ) → draw q seed c n j ≡ number q seed c j
+unfolding draw
+draw-is q seed c n j = refl

@@ -8,8 +8,6 @@ use Rattle.aes.specs.Fips197.{addKey}
 use borrow.Author.Needs.{needs}
 use Rattle.aes.proofs.add_key.Statement.{statement}
 use Rattle.aes.proofs.add_key.Tie as tie
-use Rattle.aes.proofs.add_key.Reads as reads
-use Rattle.aes.proofs.add_key.Lts as lts
 
 abbrev Inv-loop : tie.InvT-loop
 Inv-loop w n s r₀ i₀ r i = Filling 16 r i (λ k. bitXor (getD s k 0) (getD w (16 * n + k) 0))
@@ -17,43 +15,33 @@ Inv-loop w n s r₀ i₀ r i = Filling 16 r i (λ k. bitXor (getD s k 0) (getD w
 abbrev μ-loop : tie.MeasureT-loop
 μ-loop w n s r₀ i₀ r i = 16 - i
 
--- src/lib.rt:72:5
 loop-holds : tie.Need-loop-holds Inv-loop μ-loop
 loop-holds c = start _ _ refl
 
--- src/lib.rt:73:16
 element-copy-out-r : tie.Need-element-copy-out-r Inv-loop μ-loop
 element-copy-out-r c = search needs
 
--- src/lib.rt:73:25
 mul-r : tie.Need-mul-r Inv-loop μ-loop
 mul-r c = search needs
 
--- src/lib.rt:73:25
 add-r : tie.Need-add-r Inv-loop μ-loop
 add-r c = search needs
 
--- src/lib.rt:73:23
 element-copy-out-r-2 : tie.Need-element-copy-out-r-2 Inv-loop μ-loop
 element-copy-out-r-2 c = search needs
 
--- src/lib.rt:73:9
 array-write-r : tie.Need-array-write-r Inv-loop μ-loop
 array-write-r c = search needs
 
--- src/lib.rt:72:9
 add-i : tie.Need-add-i Inv-loop μ-loop
 add-i c = search needs
 
--- src/lib.rt:72:5
 loop-less : tie.Need-loop-less Inv-loop μ-loop
 loop-less c = search needs
 
--- src/lib.rt:72:5
 loop-again : tie.Need-loop-again Inv-loop μ-loop
 loop-again c = more (c .before .before .before .loop .inv) (c .before .before .loop-test .taken) refl
 
--- src/lib.rt:67:1
 returns : tie.Need-returns Inv-loop μ-loop
 unfolding addKey
 returns c = done (c .before .loop .inv) (c .loop-test .left)

@@ -7,12 +7,6 @@ use Rattle.aes.specs.Fips197.{rounds, cipher}
 use borrow.Author.Needs.{needs}
 use Rattle.aes.proofs.encrypt.Statement.{statement}
 use Rattle.aes.proofs.encrypt.Tie as tie
-use Rattle.aes.proofs.encrypt.Reads as reads
-use Rattle.aes.proofs.encrypt.Lts as lts
-use Rattle.aes.proofs.add_key.Reads as add-key-reads
-use Rattle.aes.proofs.last_round.Reads as last-round-reads
-use Rattle.aes.proofs.round.Reads as round-reads
-use Rattle.sbox.proofs.table.Reads as table-reads
 
 abbrev Inv-loop : tie.InvT-loop
 Inv-loop w t s₀ n₀ s n = (n ≤ 9) × (s ≡ rounds w n s₀)
@@ -20,45 +14,35 @@ Inv-loop w t s₀ n₀ s n = (n ≤ 9) × (s ≡ rounds w n s₀)
 abbrev μ-loop : tie.MeasureT-loop
 μ-loop w t s₀ n₀ s n = 9 - n
 
--- src/lib.rt:118:13
 table-requires : tie.Need-table-requires Inv-loop μ-loop
 table-requires c κs = search needs
 
--- src/lib.rt:119:17
 add-key-requires : tie.Need-add-key-requires Inv-loop μ-loop
 add-key-requires c κs = search needs
 
--- src/lib.rt:120:5
 loop-holds : tie.Need-loop-holds Inv-loop μ-loop
 unfolding rounds
 loop-holds c = (search needs, refl)
 
--- src/lib.rt:121:26
 add-round : tie.Need-add-round Inv-loop μ-loop
 add-round c = search needs
 
--- src/lib.rt:121:13
 round-requires : tie.Need-round-requires Inv-loop μ-loop
 round-requires c κs = search needs
 
--- src/lib.rt:120:9
 add-n : tie.Need-add-n Inv-loop μ-loop
 add-n c = search needs
 
--- src/lib.rt:120:5
 loop-less : tie.Need-loop-less Inv-loop μ-loop
 loop-less c = search needs
 
--- src/lib.rt:120:5
 loop-again : tie.Need-loop-again Inv-loop μ-loop
 unfolding rounds
 loop-again c = let n = c .before .before .before .before .loop .n in (search needs, rw (add-one n) (cc))
 
--- src/lib.rt:123:5
 last-round-requires : tie.Need-last-round-requires Inv-loop μ-loop
 last-round-requires c κs = search needs
 
--- src/lib.rt:115:1
 returns : tie.Need-returns Inv-loop μ-loop
 unfolding cipher
 returns c = let n = c .before .before .before .before .loop .n in let e : n ≡ 9 = omega arith in cc

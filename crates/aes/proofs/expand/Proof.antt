@@ -10,10 +10,6 @@ use Rattle.aes.proofs.Laws.{copied, next-word}
 use borrow.Author.Needs.{needs}
 use Rattle.aes.proofs.expand.Statement.{statement}
 use Rattle.aes.proofs.expand.Tie as tie
-use Rattle.aes.proofs.expand.Reads as reads
-use Rattle.aes.proofs.expand.Lts as lts
-use Rattle.aes.proofs.temp_word.Reads as temp-word-reads
-use Rattle.sbox.proofs.table.Reads as table-reads
 
 abbrev Inv-loop : tie.InvT-loop
 Inv-loop key t w₀ i₀ w i = (i ≤ 16) × (length w ≡ 176) × (take i w ≡ take i key)
@@ -27,31 +23,24 @@ Inv-loop2 t w₀ n₀ w n = (n ≤ 40) × (length w ≡ 176) × (take (16 + 4 * 
 abbrev μ-loop2 : tie.MeasureT-loop2
 μ-loop2 t w₀ n₀ w n = 40 - n
 
--- src/lib.rt:42:13
 table-requires : tie.Need-table-requires Inv-loop μ-loop Inv-loop2 μ-loop2
 table-requires c κs = search needs
 
--- src/lib.rt:44:5
 loop-holds : tie.Need-loop-holds Inv-loop μ-loop Inv-loop2 μ-loop2
 loop-holds c = (search needs, refl, refl)
 
--- src/lib.rt:45:16
 array-read-w : tie.Need-array-read-w Inv-loop μ-loop Inv-loop2 μ-loop2
 array-read-w c = search needs
 
--- src/lib.rt:45:9
 array-write-w : tie.Need-array-write-w Inv-loop μ-loop Inv-loop2 μ-loop2
 array-write-w c = search needs
 
--- src/lib.rt:44:9
 add-i : tie.Need-add-i Inv-loop μ-loop Inv-loop2 μ-loop2
 add-i c = search needs
 
--- src/lib.rt:44:5
 loop-less : tie.Need-loop-less Inv-loop μ-loop Inv-loop2 μ-loop2
 loop-less c = search needs
 
--- src/lib.rt:44:5
 loop-again : tie.Need-loop-again Inv-loop μ-loop Inv-loop2 μ-loop2
 loop-again c =
     let w = c .before .loop .w in
@@ -59,108 +48,82 @@ loop-again c =
     let key-long : length key ≡ 16 = search needs in
     (search needs, simp length-set (c .before .loop .inv .1), copied w key (c .before .loop .i) (omega arith) (omega arith) (c .before .loop .inv .2))
 
--- src/lib.rt:47:5
 loop2-holds : tie.Need-loop2-holds Inv-loop μ-loop Inv-loop2 μ-loop2
 unfolding words
 loop2-holds c = (search needs, c .before .loop .inv .1, refl)
 
--- src/lib.rt:48:35
 add-temp-word : tie.Need-add-temp-word Inv-loop μ-loop Inv-loop2 μ-loop2
 add-temp-word c = search needs
 
--- src/lib.rt:48:17
 temp-word-requires : tie.Need-temp-word-requires Inv-loop μ-loop Inv-loop2 μ-loop2
 temp-word-requires c κs = search needs
 
--- src/lib.rt:49:17
 mul-i : tie.Need-mul-i Inv-loop μ-loop Inv-loop2 μ-loop2
 mul-i c = search needs
 
--- src/lib.rt:50:17
 add-k : tie.Need-add-k Inv-loop μ-loop Inv-loop2 μ-loop2
 add-k c = search needs
 
--- src/lib.rt:51:17
 array-read-a : tie.Need-array-read-a Inv-loop μ-loop Inv-loop2 μ-loop2
 array-read-a c = search needs
 
--- src/lib.rt:51:24
 array-read-a-2 : tie.Need-array-read-a-2 Inv-loop μ-loop Inv-loop2 μ-loop2
 array-read-a-2 c = search needs
 
--- src/lib.rt:52:19
 add-b : tie.Need-add-b Inv-loop μ-loop Inv-loop2 μ-loop2
 add-b c = search needs
 
--- src/lib.rt:52:17
 array-read-b : tie.Need-array-read-b Inv-loop μ-loop Inv-loop2 μ-loop2
 array-read-b c = search needs
 
--- src/lib.rt:52:28
 array-read-b-2 : tie.Need-array-read-b-2 Inv-loop μ-loop Inv-loop2 μ-loop2
 array-read-b-2 c = search needs
 
--- src/lib.rt:53:19
 add-c : tie.Need-add-c Inv-loop μ-loop Inv-loop2 μ-loop2
 add-c c = search needs
 
--- src/lib.rt:53:17
 array-read-c : tie.Need-array-read-c Inv-loop μ-loop Inv-loop2 μ-loop2
 array-read-c c = search needs
 
--- src/lib.rt:53:28
 array-read-c-2 : tie.Need-array-read-c-2 Inv-loop μ-loop Inv-loop2 μ-loop2
 array-read-c-2 c = search needs
 
--- src/lib.rt:54:19
 add-d : tie.Need-add-d Inv-loop μ-loop Inv-loop2 μ-loop2
 add-d c = search needs
 
--- src/lib.rt:54:17
 array-read-d : tie.Need-array-read-d Inv-loop μ-loop Inv-loop2 μ-loop2
 array-read-d c = search needs
 
--- src/lib.rt:54:28
 array-read-d-2 : tie.Need-array-read-d-2 Inv-loop μ-loop Inv-loop2 μ-loop2
 array-read-d-2 c = search needs
 
--- src/lib.rt:55:9
 array-write-w-2 : tie.Need-array-write-w-2 Inv-loop μ-loop Inv-loop2 μ-loop2
 array-write-w-2 c = search needs
 
--- src/lib.rt:56:11
 add-w : tie.Need-add-w Inv-loop μ-loop Inv-loop2 μ-loop2
 add-w c = search needs
 
--- src/lib.rt:56:9
 array-write-w-3 : tie.Need-array-write-w-3 Inv-loop μ-loop Inv-loop2 μ-loop2
 array-write-w-3 c = search needs
 
--- src/lib.rt:57:11
 add-w-2 : tie.Need-add-w-2 Inv-loop μ-loop Inv-loop2 μ-loop2
 add-w-2 c = search needs
 
--- src/lib.rt:57:9
 array-write-w-4 : tie.Need-array-write-w-4 Inv-loop μ-loop Inv-loop2 μ-loop2
 array-write-w-4 c = search needs
 
--- src/lib.rt:58:11
 add-w-3 : tie.Need-add-w-3 Inv-loop μ-loop Inv-loop2 μ-loop2
 add-w-3 c = search needs
 
--- src/lib.rt:58:9
 array-write-w-5 : tie.Need-array-write-w-5 Inv-loop μ-loop Inv-loop2 μ-loop2
 array-write-w-5 c = search needs
 
--- src/lib.rt:47:9
 add-n : tie.Need-add-n Inv-loop μ-loop Inv-loop2 μ-loop2
 add-n c = search needs
 
--- src/lib.rt:47:5
 loop2-less : tie.Need-loop2-less Inv-loop μ-loop Inv-loop2 μ-loop2
 loop2-less c = search needs
 
--- src/lib.rt:47:5
 loop2-again : tie.Need-loop2-again Inv-loop μ-loop Inv-loop2 μ-loop2
 loop2-again c =
     let at = c .before .before .before .before in
@@ -171,7 +134,6 @@ loop2-again c =
           (c .temp-word .ensures),
     )
 
--- src/lib.rt:39:1
 returns : tie.Need-returns Inv-loop μ-loop Inv-loop2 μ-loop2
 unfolding keyExpansion
 returns c =

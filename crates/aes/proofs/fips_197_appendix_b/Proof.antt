@@ -1,12 +1,8 @@
 -- The example is computed in `specs/Example.antt`. Assumes nothing.
 use Rattle.aes.specs.Example.{appendix-b}
-use borrow.Author.Needs.{needs}
 use Rattle.aes.proofs.fips_197_appendix_b.Statement.{statement}
 use Rattle.aes.proofs.fips_197_appendix_b.Tie as tie
-use Rattle.aes.proofs.fips_197_appendix_b.Reads as reads
-use Rattle.aes.proofs.fips_197_appendix_b.Lts as lts
 
--- src/lib.rt:127:1
 returns : tie.Need-returns
 returns c = appendix-b
 

@@ -10,9 +10,6 @@ use Rattle.aes.proofs.Laws.{sub-shift-at}
 use borrow.Author.Needs.{needs}
 use Rattle.aes.proofs.last_round.Statement.{statement}
 use Rattle.aes.proofs.last_round.Tie as tie
-use Rattle.aes.proofs.last_round.Reads as reads
-use Rattle.aes.proofs.last_round.Lts as lts
-use Rattle.sbox.proofs.sub.Reads as sub-reads
 
 abbrev Inv-loop : tie.InvT-loop
 Inv-loop t w s r₀ i₀ r i = Filling 16 r i (λ k. bitXor (getD (shiftRows (subBytes s)) k 0) (getD w (16 * 10 + k) 0))
@@ -20,47 +17,36 @@ Inv-loop t w s r₀ i₀ r i = Filling 16 r i (λ k. bitXor (getD (shiftRows (su
 abbrev μ-loop : tie.MeasureT-loop
 μ-loop t w s r₀ i₀ r i = 16 - i
 
--- src/lib.rt:108:5
 loop-holds : tie.Need-loop-holds Inv-loop μ-loop
 loop-holds c = start _ _ refl
 
--- src/lib.rt:109:36
 mul-sub : tie.Need-mul-sub Inv-loop μ-loop
 mul-sub c = search needs
 
--- src/lib.rt:109:32
 add-sub : tie.Need-add-sub Inv-loop μ-loop
 add-sub c = search needs
 
--- src/lib.rt:109:29
 element-copy-out-sub : tie.Need-element-copy-out-sub Inv-loop μ-loop
 element-copy-out-sub c = search needs
 
--- src/lib.rt:109:16
 sub-requires : tie.Need-sub-requires Inv-loop μ-loop
 sub-requires c κs = search needs
 
--- src/lib.rt:109:60
 add-r : tie.Need-add-r Inv-loop μ-loop
 add-r c = search needs
 
--- src/lib.rt:109:58
 element-copy-out-r : tie.Need-element-copy-out-r Inv-loop μ-loop
 element-copy-out-r c = search needs
 
--- src/lib.rt:109:9
 array-write-r : tie.Need-array-write-r Inv-loop μ-loop
 array-write-r c = search needs
 
--- src/lib.rt:108:9
 add-i : tie.Need-add-i Inv-loop μ-loop
 add-i c = search needs
 
--- src/lib.rt:108:5
 loop-less : tie.Need-loop-less Inv-loop μ-loop
 loop-less c = search needs
 
--- src/lib.rt:108:5
 loop-again : tie.Need-loop-again Inv-loop μ-loop
 loop-again c =
     let i = c .before .before .before .before .loop .i in
@@ -68,7 +54,6 @@ loop-again c =
     c .before .sub .ensures ∙ sym (sub-shift-at (c .before .before .before .before .before .args .s .now) i (omega arith)) in
     more (c .before .before .before .before .loop .inv) (c .before .before .before .loop-test .taken) (rw e)
 
--- src/lib.rt:103:1
 returns : tie.Need-returns Inv-loop μ-loop
 unfolding addKey
 returns c = done (c .before .loop .inv) (c .loop-test .left)

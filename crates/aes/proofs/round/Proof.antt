@@ -6,14 +6,10 @@ use lib.Bits.{bitXor}
 use lib.ListN.{getD}
 use Rattle.lists.specs.Tab.{Filling, start, more, counted, done}
 use Rattle.aes.specs.Fips197.{subBytes, shiftRows, mixColumns, addKey}
-use Rattle.aes.proofs.Laws.{Column, column}
+use Rattle.aes.proofs.Laws.{column}
 use borrow.Author.Needs.{needs}
 use Rattle.aes.proofs.round.Statement.{statement}
 use Rattle.aes.proofs.round.Tie as tie
-use Rattle.aes.proofs.round.Reads as reads
-use Rattle.aes.proofs.round.Lts as lts
-use Rattle.aes.proofs.mix.Reads as mix-reads
-use Rattle.sbox.proofs.sub.Reads as sub-reads
 
 below : (i : ℕ) → i < 4 → 4 * i < 16
 below i h = omega arith
@@ -36,159 +32,120 @@ Inv-loop t w n s r₀ c₀ r c = Filling 16 r (4 * c) (λ k. bitXor (getD (mixCo
 abbrev μ-loop : tie.MeasureT-loop
 μ-loop t w n s r₀ c₀ r c = 4 - c
 
--- src/lib.rt:85:5
 loop-holds : tie.Need-loop-holds Inv-loop μ-loop
 loop-holds c = start _ _ refl
 
--- src/lib.rt:86:17
 mul-i : tie.Need-mul-i Inv-loop μ-loop
 mul-i c = search needs
 
--- src/lib.rt:87:30
 element-copy-out-sub : tie.Need-element-copy-out-sub Inv-loop μ-loop
 element-copy-out-sub c = search needs
 
--- src/lib.rt:87:13
 sub-requires : tie.Need-sub-requires Inv-loop μ-loop
 sub-requires c κs = search needs
 
--- src/lib.rt:88:33
 add-sub : tie.Need-add-sub Inv-loop μ-loop
 add-sub c = search needs
 
--- src/lib.rt:88:30
 element-copy-out-sub-2 : tie.Need-element-copy-out-sub-2 Inv-loop μ-loop
 element-copy-out-sub-2 c = search needs
 
--- src/lib.rt:88:13
 sub-requires-2 : tie.Need-sub-requires-2 Inv-loop μ-loop
 sub-requires-2 c κs = search needs
 
--- src/lib.rt:89:33
 add-sub-2 : tie.Need-add-sub-2 Inv-loop μ-loop
 add-sub-2 c = search needs
 
--- src/lib.rt:89:30
 element-copy-out-sub-3 : tie.Need-element-copy-out-sub-3 Inv-loop μ-loop
 element-copy-out-sub-3 c = search needs
 
--- src/lib.rt:89:13
 sub-requires-3 : tie.Need-sub-requires-3 Inv-loop μ-loop
 sub-requires-3 c κs = search needs
 
--- src/lib.rt:90:33
 add-sub-3 : tie.Need-add-sub-3 Inv-loop μ-loop
 add-sub-3 c = search needs
 
--- src/lib.rt:90:30
 element-copy-out-sub-4 : tie.Need-element-copy-out-sub-4 Inv-loop μ-loop
 element-copy-out-sub-4 c = search needs
 
--- src/lib.rt:90:13
 sub-requires-4 : tie.Need-sub-requires-4 Inv-loop μ-loop
 sub-requires-4 c κs = search needs
 
--- src/lib.rt:91:17
 add-j : tie.Need-add-j Inv-loop μ-loop
 add-j c = search needs
 
--- src/lib.rt:92:17
 add-k : tie.Need-add-k Inv-loop μ-loop
 add-k c = search needs
 
--- src/lib.rt:93:17
 add-l : tie.Need-add-l Inv-loop μ-loop
 add-l c = search needs
 
--- src/lib.rt:94:16
 mix-requires : tie.Need-mix-requires Inv-loop μ-loop
 mix-requires c κs = search needs
 
--- src/lib.rt:94:36
 mul-r : tie.Need-mul-r Inv-loop μ-loop
 mul-r c = search needs
 
--- src/lib.rt:94:36
 add-r : tie.Need-add-r Inv-loop μ-loop
 add-r c = search needs
 
--- src/lib.rt:94:34
 element-copy-out-r : tie.Need-element-copy-out-r Inv-loop μ-loop
 element-copy-out-r c = search needs
 
--- src/lib.rt:94:9
 array-write-r : tie.Need-array-write-r Inv-loop μ-loop
 array-write-r c = search needs
 
--- src/lib.rt:95:16
 mix-requires-2 : tie.Need-mix-requires-2 Inv-loop μ-loop
 mix-requires-2 c κs = search needs
 
--- src/lib.rt:95:36
 mul-r-2 : tie.Need-mul-r-2 Inv-loop μ-loop
 mul-r-2 c = search needs
 
--- src/lib.rt:95:36
 add-r-2 : tie.Need-add-r-2 Inv-loop μ-loop
 add-r-2 c = search needs
 
--- src/lib.rt:95:34
 element-copy-out-r-2 : tie.Need-element-copy-out-r-2 Inv-loop μ-loop
 element-copy-out-r-2 c = search needs
 
--- src/lib.rt:95:9
 array-write-r-2 : tie.Need-array-write-r-2 Inv-loop μ-loop
 array-write-r-2 c = search needs
 
--- src/lib.rt:96:16
 mix-requires-3 : tie.Need-mix-requires-3 Inv-loop μ-loop
 mix-requires-3 c κs = search needs
 
--- src/lib.rt:96:36
 mul-r-3 : tie.Need-mul-r-3 Inv-loop μ-loop
 mul-r-3 c = search needs
 
--- src/lib.rt:96:36
 add-r-3 : tie.Need-add-r-3 Inv-loop μ-loop
 add-r-3 c = search needs
 
--- src/lib.rt:96:34
 element-copy-out-r-3 : tie.Need-element-copy-out-r-3 Inv-loop μ-loop
 element-copy-out-r-3 c = search needs
 
--- src/lib.rt:96:9
 array-write-r-3 : tie.Need-array-write-r-3 Inv-loop μ-loop
 array-write-r-3 c = search needs
 
--- src/lib.rt:97:16
 mix-requires-4 : tie.Need-mix-requires-4 Inv-loop μ-loop
 mix-requires-4 c κs = search needs
 
--- src/lib.rt:97:36
 mul-r-4 : tie.Need-mul-r-4 Inv-loop μ-loop
 mul-r-4 c = search needs
 
--- src/lib.rt:97:36
 add-r-4 : tie.Need-add-r-4 Inv-loop μ-loop
 add-r-4 c = search needs
 
--- src/lib.rt:97:34
 element-copy-out-r-4 : tie.Need-element-copy-out-r-4 Inv-loop μ-loop
 element-copy-out-r-4 c = search needs
 
--- src/lib.rt:97:9
 array-write-r-4 : tie.Need-array-write-r-4 Inv-loop μ-loop
 array-write-r-4 c = search needs
 
--- src/lib.rt:85:9
 add-c : tie.Need-add-c Inv-loop μ-loop
 add-c c = search needs
 
--- src/lib.rt:85:5
 loop-less : tie.Need-loop-less Inv-loop μ-loop
 loop-less c = search needs
 
--- src/lib.rt:85:5
 loop-again : tie.Need-loop-again Inv-loop μ-loop
 loop-again c =
     let subs = c .before .before .before .before .before .before .before .before in
@@ -210,7 +167,6 @@ loop-again c =
     (below-3 i h)
     (rw (c .before .mix4 .ensures ∙ col .fourth)))
 
--- src/lib.rt:79:1
 returns : tie.Need-returns Inv-loop μ-loop
 unfolding addKey
 returns c = done (c .before .loop .inv) (omega arith)

@@ -8,8 +8,6 @@ use Rattle.aes.specs.Fips197.{xPower}
 use borrow.Author.Needs.{needs}
 use Rattle.aes.proofs.x_power.Statement.{statement}
 use Rattle.aes.proofs.x_power.Tie as tie
-use Rattle.aes.proofs.x_power.Reads as reads
-use Rattle.aes.proofs.x_power.Lts as lts
 
 abbrev powers : List ℕ
 powers = 0x01 ∷ 0x02 ∷ 0x04 ∷ 0x08 ∷ 0x10 ∷ 0x20 ∷ 0x40 ∷ 0x80 ∷ 0x1b ∷ 0x36 ∷ []
@@ -17,7 +15,6 @@ powers = 0x01 ∷ 0x02 ∷ 0x04 ∷ 0x08 ∷ 0x10 ∷ 0x20 ∷ 0x40 ∷ 0x80 ∷
 array-read-result : tie.Need-array-read-result
 array-read-result c = search needs
 
--- src/lib.rt:13:1
 returns : tie.Need-returns
 unfolding product remainder gmul xPower
 returns c = same (λ j. getD powers j 0) xPower 10 tt (c .args .j) (c .pre)

@@ -3,31 +3,22 @@ use Rattle.aes_wide.proofs.Laws.{counter-upper}
 use borrow.Author.Needs.{needs}
 use Rattle.aes_wide.proofs.counter_byte.Statement.{statement}
 use Rattle.aes_wide.proofs.counter_byte.Tie as tie
-use Rattle.aes_wide.proofs.counter_byte.Reads as reads
-use Rattle.aes_wide.proofs.counter_byte.Lts as lts
-use Rattle.gf.proofs.low8.Reads as low8-reads
 
--- src/lib.rt:17:9
 returns : tie.Need-returns
 returns c = counter-upper (c .before .args .j) (c .before .args .p) (c .if1 .taken) (c .before .fits .j .fits)
 
--- src/lib.rt:19:18
 sub-k : tie.Need-sub-k
 sub-k c = search needs
 
--- src/lib.rt:19:13
 mul-k : tie.Need-mul-k
 mul-k c = search needs
 
--- src/lib.rt:20:14
 shr-low8 : tie.Need-shr-low8
 shr-low8 c = search needs
 
--- src/lib.rt:20:5
 low8-requires : tie.Need-low8-requires
 low8-requires c κs = search needs
 
--- src/lib.rt:12:1
 returns-2 : tie.Need-returns-2
 returns-2 c = search needs
 

@@ -6,8 +6,6 @@ use Rattle.aes_wide.proofs.Laws.{Rows, rows-start, row-more, row-next, 
 use borrow.Author.Needs.{needs}
 use Rattle.aes_wide.proofs.first_key.Statement.{statement}
 use Rattle.aes_wide.proofs.first_key.Tie as tie
-use Rattle.aes_wide.proofs.first_key.Reads as reads
-use Rattle.aes_wide.proofs.first_key.Lts as lts
 
 abbrev Inv-loop2 : tie.InvT-loop2
 Inv-loop2 w s r₀ p k l₀ r l = Rows r p l (λ b. addKey w 0 (lane s b))
@@ -21,51 +19,39 @@ Inv-loop w s r₀ p₀ r p = Rows r p 0 (λ b. addKey w 0 (lane s b))
 abbrev μ-loop : tie.MeasureT-loop
 μ-loop w s r₀ p₀ r p = 16 - p
 
--- src/lib.rt:41:5
 loop-holds : tie.Need-loop-holds Inv-loop2 μ-loop2 Inv-loop μ-loop
 loop-holds c = rows-start _ _ (c .pre)
 
--- src/lib.rt:42:17
 element-copy-out-k : tie.Need-element-copy-out-k Inv-loop2 μ-loop2 Inv-loop μ-loop
 element-copy-out-k c = search needs
 
--- src/lib.rt:43:9
 loop2-holds : tie.Need-loop2-holds Inv-loop2 μ-loop2 Inv-loop μ-loop
 loop2-holds c = c .before .before .loop .inv
 
--- src/lib.rt:44:31
 mul-r : tie.Need-mul-r Inv-loop2 μ-loop2 Inv-loop μ-loop
 mul-r c = search needs
 
--- src/lib.rt:44:31
 add-r : tie.Need-add-r Inv-loop2 μ-loop2 Inv-loop μ-loop
 add-r c = search needs
 
--- src/lib.rt:44:29
 element-copy-out-r : tie.Need-element-copy-out-r Inv-loop2 μ-loop2 Inv-loop μ-loop
 element-copy-out-r c = search needs
 
--- src/lib.rt:44:15
 mul-r-2 : tie.Need-mul-r-2 Inv-loop2 μ-loop2 Inv-loop μ-loop
 mul-r-2 c = search needs
 
--- src/lib.rt:44:15
 add-r-2 : tie.Need-add-r-2 Inv-loop2 μ-loop2 Inv-loop μ-loop
 add-r-2 c = search needs
 
--- src/lib.rt:44:13
 element-write-r : tie.Need-element-write-r Inv-loop2 μ-loop2 Inv-loop μ-loop
 element-write-r c = search needs
 
--- src/lib.rt:43:13
 add-l : tie.Need-add-l Inv-loop2 μ-loop2 Inv-loop μ-loop
 add-l c = search needs
 
--- src/lib.rt:43:9
 loop2-less : tie.Need-loop2-less Inv-loop2 μ-loop2 Inv-loop μ-loop
 loop2-less c = search needs
 
--- src/lib.rt:43:9
 loop2-again : tie.Need-loop2-again Inv-loop2 μ-loop2 Inv-loop μ-loop
 loop2-again c =
     let turn = c .before .before .before .before in
@@ -73,19 +59,15 @@ loop2-again c =
     row-more (c .before .before .loop2 .inv) (turn .loop-test .taken) (c .before .loop2-test .taken)
     (key-value (start .args .w .now) (start .args .s .now) (turn .before .loop .p) (c .before .before .loop2 .l) (turn .loop-test .taken))
 
--- src/lib.rt:41:9
 add-p : tie.Need-add-p Inv-loop2 μ-loop2 Inv-loop μ-loop
 add-p c = search needs
 
--- src/lib.rt:41:5
 loop-less : tie.Need-loop-less Inv-loop2 μ-loop2 Inv-loop μ-loop
 loop-less c = search needs
 
--- src/lib.rt:41:5
 loop-again : tie.Need-loop-again Inv-loop2 μ-loop2 Inv-loop μ-loop
 loop-again c = row-next (c .before .loop2 .inv) (c .loop2-test .left)
 
--- src/lib.rt:37:1
 returns : tie.Need-returns Inv-loop2 μ-loop2 Inv-loop μ-loop
 returns c = rows-end (c .before .loop .inv) (c .loop-test .left) (λ b. key-size (c .before .before .args .w .now) (lane (c .before .before .args .s .now) b) 0)
 

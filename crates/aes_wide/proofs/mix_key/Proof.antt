@@ -1,15 +1,11 @@
 -- `aes_wide::mix_key` meets its contract: the loops write r column by column, a block of it a turn. Assumes nothing.
-use Prim.Native.Nat.{_-_, _≤_}
-use native.Mathlib.Omega.{arith}
+use Prim.Native.Nat.{_-_}
 use Rattle.aes.specs.Fips197.{mixColumns, addKey}
 use Rattle.aes_wide.specs.Wide.{lane}
 use Rattle.aes_wide.proofs.Laws.{Columns, columns-start, column-more, column-next, columns-end, key-size}
 use borrow.Author.Needs.{needs}
 use Rattle.aes_wide.proofs.mix_key.Statement.{statement}
 use Rattle.aes_wide.proofs.mix_key.Tie as tie
-use Rattle.aes_wide.proofs.mix_key.Reads as reads
-use Rattle.aes_wide.proofs.mix_key.Lts as lts
-use Rattle.aes.proofs.mix.Reads as mix-reads
 
 abbrev Inv-loop2 : tie.InvT-loop2
 Inv-loop2 w n s r₀ c p k0 k1 k2 k3 l₀ r l = Columns r c l (λ b. addKey w n (mixColumns (lane s b)))
@@ -23,167 +19,126 @@ Inv-loop w n s r₀ c₀ r c = Columns r c 0 (λ b. addKey w n (mixColumns (lane
 abbrev μ-loop : tie.MeasureT-loop
 μ-loop w n s r₀ c₀ r c = 4 - c
 
--- src/lib.rt:70:5
 loop-holds : tie.Need-loop-holds Inv-loop2 μ-loop2 Inv-loop μ-loop
 loop-holds c = columns-start _ _ (c .pre .1)
 
--- src/lib.rt:71:17
 mul-p : tie.Need-mul-p Inv-loop2 μ-loop2 Inv-loop μ-loop
 mul-p c = search needs
 
--- src/lib.rt:72:20
 mul-k0 : tie.Need-mul-k0 Inv-loop2 μ-loop2 Inv-loop μ-loop
 mul-k0 c = search needs
 
--- src/lib.rt:72:20
 add-k0 : tie.Need-add-k0 Inv-loop2 μ-loop2 Inv-loop μ-loop
 add-k0 c = search needs
 
--- src/lib.rt:72:18
 element-copy-out-k0 : tie.Need-element-copy-out-k0 Inv-loop2 μ-loop2 Inv-loop μ-loop
 element-copy-out-k0 c = search needs
 
--- src/lib.rt:73:20
 mul-k1 : tie.Need-mul-k1 Inv-loop2 μ-loop2 Inv-loop μ-loop
 mul-k1 c = search needs
 
--- src/lib.rt:73:30
 add-k1 : tie.Need-add-k1 Inv-loop2 μ-loop2 Inv-loop μ-loop
 add-k1 c = search needs
 
--- src/lib.rt:73:20
 add-k1-2 : tie.Need-add-k1-2 Inv-loop2 μ-loop2 Inv-loop μ-loop
 add-k1-2 c = search needs
 
--- src/lib.rt:73:18
 element-copy-out-k1 : tie.Need-element-copy-out-k1 Inv-loop2 μ-loop2 Inv-loop μ-loop
 element-copy-out-k1 c = search needs
 
--- src/lib.rt:74:20
 mul-k2 : tie.Need-mul-k2 Inv-loop2 μ-loop2 Inv-loop μ-loop
 mul-k2 c = search needs
 
--- src/lib.rt:74:30
 add-k2 : tie.Need-add-k2 Inv-loop2 μ-loop2 Inv-loop μ-loop
 add-k2 c = search needs
 
--- src/lib.rt:74:20
 add-k2-2 : tie.Need-add-k2-2 Inv-loop2 μ-loop2 Inv-loop μ-loop
 add-k2-2 c = search needs
 
--- src/lib.rt:74:18
 element-copy-out-k2 : tie.Need-element-copy-out-k2 Inv-loop2 μ-loop2 Inv-loop μ-loop
 element-copy-out-k2 c = search needs
 
--- src/lib.rt:75:20
 mul-k3 : tie.Need-mul-k3 Inv-loop2 μ-loop2 Inv-loop μ-loop
 mul-k3 c = search needs
 
--- src/lib.rt:75:30
 add-k3 : tie.Need-add-k3 Inv-loop2 μ-loop2 Inv-loop μ-loop
 add-k3 c = search needs
 
--- src/lib.rt:75:20
 add-k3-2 : tie.Need-add-k3-2 Inv-loop2 μ-loop2 Inv-loop μ-loop
 add-k3-2 c = search needs
 
--- src/lib.rt:75:18
 element-copy-out-k3 : tie.Need-element-copy-out-k3 Inv-loop2 μ-loop2 Inv-loop μ-loop
 element-copy-out-k3 c = search needs
 
--- src/lib.rt:76:9
 loop2-holds : tie.Need-loop2-holds Inv-loop2 μ-loop2 Inv-loop μ-loop
 loop2-holds c = c .before .before .before .before .before .loop .inv
 
--- src/lib.rt:77:21
 mul-i : tie.Need-mul-i Inv-loop2 μ-loop2 Inv-loop μ-loop
 mul-i c = search needs
 
--- src/lib.rt:77:21
 add-i : tie.Need-add-i Inv-loop2 μ-loop2 Inv-loop μ-loop
 add-i c = search needs
 
--- src/lib.rt:78:21
 element-copy-out-a : tie.Need-element-copy-out-a Inv-loop2 μ-loop2 Inv-loop μ-loop
 element-copy-out-a c = search needs
 
--- src/lib.rt:79:23
 add-b : tie.Need-add-b Inv-loop2 μ-loop2 Inv-loop μ-loop
 add-b c = search needs
 
--- src/lib.rt:79:21
 element-copy-out-b : tie.Need-element-copy-out-b Inv-loop2 μ-loop2 Inv-loop μ-loop
 element-copy-out-b c = search needs
 
--- src/lib.rt:80:23
 add-d : tie.Need-add-d Inv-loop2 μ-loop2 Inv-loop μ-loop
 add-d c = search needs
 
--- src/lib.rt:80:21
 element-copy-out-d : tie.Need-element-copy-out-d Inv-loop2 μ-loop2 Inv-loop μ-loop
 element-copy-out-d c = search needs
 
--- src/lib.rt:81:23
 add-e : tie.Need-add-e Inv-loop2 μ-loop2 Inv-loop μ-loop
 add-e c = search needs
 
--- src/lib.rt:81:21
 element-copy-out-e : tie.Need-element-copy-out-e Inv-loop2 μ-loop2 Inv-loop μ-loop
 element-copy-out-e c = search needs
 
--- src/lib.rt:82:20
 mix-requires : tie.Need-mix-requires Inv-loop2 μ-loop2 Inv-loop μ-loop
 mix-requires c κs = search needs
 
--- src/lib.rt:82:13
 element-write-r : tie.Need-element-write-r Inv-loop2 μ-loop2 Inv-loop μ-loop
 element-write-r c = search needs
 
--- src/lib.rt:83:25
 mix-requires-2 : tie.Need-mix-requires-2 Inv-loop2 μ-loop2 Inv-loop μ-loop
 mix-requires-2 c κs = search needs
 
--- src/lib.rt:83:15
 add-r : tie.Need-add-r Inv-loop2 μ-loop2 Inv-loop μ-loop
 add-r c = search needs
 
--- src/lib.rt:83:13
 element-write-r-2 : tie.Need-element-write-r-2 Inv-loop2 μ-loop2 Inv-loop μ-loop
 element-write-r-2 c = search needs
 
--- src/lib.rt:84:25
 mix-requires-3 : tie.Need-mix-requires-3 Inv-loop2 μ-loop2 Inv-loop μ-loop
 mix-requires-3 c κs = search needs
 
--- src/lib.rt:84:15
 add-r-2 : tie.Need-add-r-2 Inv-loop2 μ-loop2 Inv-loop μ-loop
 add-r-2 c = search needs
 
--- src/lib.rt:84:13
 element-write-r-3 : tie.Need-element-write-r-3 Inv-loop2 μ-loop2 Inv-loop μ-loop
 element-write-r-3 c = search needs
 
--- src/lib.rt:85:25
 mix-requires-4 : tie.Need-mix-requires-4 Inv-loop2 μ-loop2 Inv-loop μ-loop
 mix-requires-4 c κs = search needs
 
--- src/lib.rt:85:15
 add-r-3 : tie.Need-add-r-3 Inv-loop2 μ-loop2 Inv-loop μ-loop
 add-r-3 c = search needs
 
--- src/lib.rt:85:13
 element-write-r-4 : tie.Need-element-write-r-4 Inv-loop2 μ-loop2 Inv-loop μ-loop
 element-write-r-4 c = search needs
 
--- src/lib.rt:76:13
 add-l : tie.Need-add-l Inv-loop2 μ-loop2 Inv-loop μ-loop
 add-l c = search needs
 
--- src/lib.rt:76:9
 loop2-less : tie.Need-loop2-less Inv-loop2 μ-loop2 Inv-loop μ-loop
 loop2-less c = search needs
 
--- src/lib.rt:76:9
 loop2-again : tie.Need-loop2-again Inv-loop2 μ-loop2 Inv-loop μ-loop
 loop2-again c =
     let turn = c .before .before .before .before .before .before .before .before .before in
@@ -202,19 +157,15 @@ loop2-again c =
     (c .mix4 .ensures)
     (turn .loop2 .inv)
 
--- src/lib.rt:70:9
 add-c : tie.Need-add-c Inv-loop2 μ-loop2 Inv-loop μ-loop
 add-c c = search needs
 
--- src/lib.rt:70:5
 loop-less : tie.Need-loop-less Inv-loop2 μ-loop2 Inv-loop μ-loop
 loop-less c = search needs
 
--- src/lib.rt:70:5
 loop-again : tie.Need-loop-again Inv-loop2 μ-loop2 Inv-loop μ-loop
 loop-again c = column-next (c .before .loop2 .inv) (c .loop2-test .left)
 
--- src/lib.rt:65:1
 returns : tie.Need-returns Inv-loop2 μ-loop2 Inv-loop μ-loop
 returns c = columns-end (c .before .loop .inv) (c .loop-test .left) (λ b. key-size (c .before .before .args .w .now) (mixColumns (lane (c .before .before .args .s .now) b)) (c .before .before .args .n))
 

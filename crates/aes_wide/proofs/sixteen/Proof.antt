@@ -9,13 +9,6 @@ use Rattle.aes_wide.proofs.Laws.{no-rounds, one-round, all-rounds}
 use borrow.Author.Needs.{needs}
 use Rattle.aes_wide.proofs.sixteen.Statement.{statement}
 use Rattle.aes_wide.proofs.sixteen.Tie as tie
-use Rattle.aes_wide.proofs.sixteen.Reads as reads
-use Rattle.aes_wide.proofs.sixteen.Lts as lts
-use Rattle.aes_wide.proofs.first_key.Reads as first-key-reads
-use Rattle.aes_wide.proofs.last_round.Reads as last-round-reads
-use Rattle.aes_wide.proofs.mix_key.Reads as mix-key-reads
-use Rattle.aes_wide.proofs.sub_shift.Reads as sub-shift-reads
-use Rattle.sbox.proofs.table.Reads as table-reads
 
 abbrev Inv-loop : tie.InvT-loop
 Inv-loop w s r t u₀ v₀ n₀ u v n = (n ≤ 9) × (length v ≡ 256) × Lanes u (λ l. rounds w n (lane u₀ l))
@@ -23,50 +16,39 @@ Inv-loop w s r t u₀ v₀ n₀ u v n = (n ≤ 9) × (length v ≡ 256) × Lanes
 abbrev μ-loop : tie.MeasureT-loop
 μ-loop w s r t u₀ v₀ n₀ u v n = 9 - n
 
--- src/lib.rt:109:13
 table-requires : tie.Need-table-requires Inv-loop μ-loop
 table-requires c κs = search needs
 
--- src/lib.rt:112:5
 first-key-requires : tie.Need-first-key-requires Inv-loop μ-loop
 first-key-requires c κs = search needs
 
--- src/lib.rt:113:5
 loop-holds : tie.Need-loop-holds Inv-loop μ-loop
 loop-holds c = (search needs, refl, no-rounds _ _ (c .first-key .ensures .long))
 
--- src/lib.rt:114:9
 sub-shift-requires : tie.Need-sub-shift-requires Inv-loop μ-loop
 sub-shift-requires c κs = search needs
 
--- src/lib.rt:115:20
 add-mix-key : tie.Need-add-mix-key Inv-loop μ-loop
 add-mix-key c = search needs
 
--- src/lib.rt:115:9
 mix-key-requires : tie.Need-mix-key-requires Inv-loop μ-loop
 mix-key-requires c κs = search needs
 
--- src/lib.rt:113:9
 add-n : tie.Need-add-n Inv-loop μ-loop
 add-n c = search needs
 
--- src/lib.rt:113:5
 loop-less : tie.Need-loop-less Inv-loop μ-loop
 loop-less c = search needs
 
--- src/lib.rt:113:5
 loop-again : tie.Need-loop-again Inv-loop μ-loop
 loop-again c =
     let at = c .before .before .before .before .before .before .before .before .loop in
     let shifted = c .before .before .before .sub-shift .ensures in
     (search needs, shifted .long, one-round _ _ _ _ (at .n) (at .inv .2) shifted (c .mix-key .ensures))
 
--- src/lib.rt:117:5
 last-round-requires : tie.Need-last-round-requires Inv-loop μ-loop
 last-round-requires c κs = search needs
 
--- src/lib.rt:105:1
 returns : tie.Need-returns Inv-loop μ-loop
 returns c =
     let at = c .before .before .before .before .before in

@@ -4,8 +4,6 @@ use mathlib.Core.Path.{refl}
 use borrow.Author.Needs.{needs}
 use Rattle.bytes4.proofs.byte.Statement.{statement}
 use Rattle.bytes4.proofs.byte.Tie as tie
-use Rattle.bytes4.proofs.byte.Reads as reads
-use Rattle.bytes4.proofs.byte.Lts as lts
 
 shared-slice-read-result : tie.Need-shared-slice-read-result
 shared-slice-read-result c = search needs

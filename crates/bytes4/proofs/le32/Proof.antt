@@ -4,9 +4,6 @@ use Rattle.lists.specs.ReadingExtra.{num-at}
 use borrow.Author.Needs.{needs}
 use Rattle.bytes4.proofs.le32.Statement.{statement}
 use Rattle.bytes4.proofs.le32.Tie as tie
-use Rattle.bytes4.proofs.le32.Reads as reads
-use Rattle.bytes4.proofs.le32.Lts as lts
-use Rattle.bytes4.proofs.byte.Reads as byte-reads
 
 mul-at : tie.Need-mul-at
 mul-at c = search needs

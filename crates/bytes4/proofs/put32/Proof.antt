@@ -4,8 +4,6 @@ use Rattle.lists.specs.ReadingExtra.{four-stored}
 use borrow.Author.Needs.{needs}
 use Rattle.bytes4.proofs.put32.Statement.{statement}
 use Rattle.bytes4.proofs.put32.Tie as tie
-use Rattle.bytes4.proofs.put32.Reads as reads
-use Rattle.bytes4.proofs.put32.Lts as lts
 
 cast-out : tie.Need-cast-out
 cast-out c = search needs

@@ -1,11 +1,10 @@
 -- `same_bytes` compares lists of one length from the front. Invariant: the bytes before i agree. Assumes nothing.
-use Prim.Native.Nat.{_≤_, _-_}
+use Prim.Native.Nat.{_≤_, _-_, ℕ}
 use mathlib.Core.Path.{_≡_, sym, _∙_}
 use native.Mathlib.Omega.{arith}
 use lib.ListN.{length, getD}
 use mathlib.Core.Bool.{Bool, true}
 use mathlib.Core.List.{List}
-use Prim.Native.Nat.{ℕ}
 use lib.Dec.{eqb}
 use borrow.Author.Tests.{eq-eqb, ne-eqb}
 use Rattle.lists.specs.Index.{every}
@@ -13,8 +12,6 @@ use Rattle.lists.specs.TestLaws.{every-zero, every-next, every-stops, same-ever
 use borrow.Author.Needs.{needs}
 use Rattle.bytes4.proofs.same_bytes.Statement.{statement}
 use Rattle.bytes4.proofs.same_bytes.Tie as tie
-use Rattle.bytes4.proofs.same_bytes.Reads as reads
-use Rattle.bytes4.proofs.same_bytes.Lts as lts
 
 abbrev agrees : List ℕ → List ℕ → ℕ → Bool
 agrees a b j = eqb (getD a j 0) (getD b j 0)

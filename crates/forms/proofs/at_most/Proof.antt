@@ -1,5 +1,5 @@
 -- `at_most` stops at the first entry above. Invariant: those before j are not. Assumes nothing.
-use Prim.Native.Nat.{ℕ, _+_, _≤_, _-_}
+use Prim.Native.Nat.{_≤_, _-_}
 use mathlib.Core.Path.{_≡_, sym, _∙_}
 use mathlib.Core.Bool.{true}
 use native.Mathlib.Omega.{arith}
@@ -11,8 +11,6 @@ use borrow.Author.Tests.{le-leb, lt-leb}
 use borrow.Author.Needs.{needs}
 use Rattle.forms.proofs.at_most.Statement.{statement}
 use Rattle.forms.proofs.at_most.Tie as tie
-use Rattle.forms.proofs.at_most.Reads as reads
-use Rattle.forms.proofs.at_most.Lts as lts
 
 abbrev Inv-loop : tie.InvT-loop
 Inv-loop x top j₀ j = (j ≤ length x) × (every j (λ i. leb (getD x i 0) top) ≡ true)

@@ -1,15 +1,10 @@
 -- `good_hidden` makes the three tests of a hidden list. Assumes nothing.
 use mathlib.Core.Path.{sym, _∙_}
-use native.Mathlib.Omega.{arith}
 use borrow.Author.Tests.{not-true, not-false}
 use Rattle.forms.proofs.Laws.{hidden-length, hidden-least, hidden-most, hidden-good, most-of}
 use borrow.Author.Needs.{needs}
 use Rattle.forms.proofs.good_hidden.Statement.{statement}
 use Rattle.forms.proofs.good_hidden.Tie as tie
-use Rattle.forms.proofs.good_hidden.Reads as reads
-use Rattle.forms.proofs.good_hidden.Lts as lts
-use Rattle.forms.proofs.at_most.Reads as at-most-reads
-use Rattle.forms.proofs.positive.Reads as positive-reads
 
 sub-if1 : tie.Need-sub-if1
 sub-if1 c = search needs

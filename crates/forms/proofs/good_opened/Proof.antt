@@ -5,10 +5,6 @@ use Rattle.forms.proofs.Laws.{opened-length, opened-rises, opened-most,
 use borrow.Author.Needs.{needs}
 use Rattle.forms.proofs.good_opened.Statement.{statement}
 use Rattle.forms.proofs.good_opened.Tie as tie
-use Rattle.forms.proofs.good_opened.Reads as reads
-use Rattle.forms.proofs.good_opened.Lts as lts
-use Rattle.forms.proofs.at_most.Reads as at-most-reads
-use Rattle.forms.proofs.rising.Reads as rising-reads
 
 returns : tie.Need-returns
 returns c = λ K of. opened-length K _ (λ e. c .if1 .taken (e ∙ sym (of .τ-is)))

@@ -3,9 +3,6 @@ use Rattle.forms.proofs.Laws.{binary-of}
 use borrow.Author.Needs.{needs}
 use Rattle.forms.proofs.is_binary.Statement.{statement}
 use Rattle.forms.proofs.is_binary.Tie as tie
-use Rattle.forms.proofs.is_binary.Reads as reads
-use Rattle.forms.proofs.is_binary.Lts as lts
-use Rattle.forms.proofs.at_most.Reads as at-most-reads
 
 at-most-requires : tie.Need-at-most-requires
 at-most-requires c κs = search needs

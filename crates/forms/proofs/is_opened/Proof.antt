@@ -1,19 +1,14 @@
 -- `is_opened` looks for x + 1. Invariant: it stands nowhere before j. Assumes nothing.
 use Prim.Native.Nat.{ℕ, suc, _≤_, _<_, _-_}
-use mathlib.Core.Path.{_≡_, sym, _∙_, subst}
-use mathlib.Core.Bool.{true}
+use mathlib.Core.Path.{_≡_, sym, _∙_}
 use native.Mathlib.Numerals.{add-one}
 use native.Mathlib.Omega.{arith}
 use lib.ListN.{length, getD}
 use borrow.Author.Count.{below-more, below-none}
-use Rattle.lists.specs.TestLaws.{member-entry, member-no}
-use Rattle.protocol.specs.Prover.{opened}
 use Rattle.forms.proofs.Laws.{opened-found, opened-none}
 use borrow.Author.Needs.{needs}
 use Rattle.forms.proofs.is_opened.Statement.{statement}
 use Rattle.forms.proofs.is_opened.Tie as tie
-use Rattle.forms.proofs.is_opened.Reads as reads
-use Rattle.forms.proofs.is_opened.Lts as lts
 
 abbrev Inv-loop : tie.InvT-loop
 Inv-loop e x j₀ j = (j ≤ length e) × ((i : ℕ) → i < j → getD e i 0 ≡ suc x → ⊥)

@@ -1,13 +1,11 @@
 -- `is_solution` compares each row with t. Invariant: the rows before l agree, and `from` is where row l begins. Assumes nothing.
 use lib.ListN.{getD}
-use Prim.Native.Nat.{_%_}
+use Prim.Native.Nat.{_%_, _+_, _*_, _≤_, _-_}
 use Rattle.numbers.specs.Sum.{sum}
 use Rattle.protocol.specs.Key.{A, t, keyOf}
-use Prim.Native.Nat.{_+_, _*_, _≤_, _-_}
-use mathlib.Core.Path.{_≡_, refl, sym, _∙_}
+use mathlib.Core.Path.{_≡_, sym, _∙_}
 use mathlib.Core.Bool.{true}
 use native.Mathlib.Omega.{arith}
-use lib.ListN.{length}
 use borrow.Author.Tests.{eq-eqb, ne-eqb}
 use Rattle.lists.specs.Index.{every}
 use Rattle.lists.specs.TestLaws.{every-zero, every-next}
@@ -16,10 +14,6 @@ use Rattle.forms.proofs.Laws.{row-fits, solvesRow, row-is, target-is, s
 use borrow.Author.Needs.{needs}
 use Rattle.forms.proofs.is_solution.Statement.{statement}
 use Rattle.forms.proofs.is_solution.Tie as tie
-use Rattle.forms.proofs.is_solution.Reads as reads
-use Rattle.forms.proofs.is_solution.Lts as lts
-use Rattle.bytes4.proofs.le32.Reads as le32-reads
-use Rattle.forms.proofs.row_sum.Reads as row-sum-reads
 
 abbrev Inv-loop : tie.InvT-loop
 Inv-loop key k secret n m target from₀ l₀ from l = (l ≤ n) × (from ≡ l * m) × (every l (solvesRow key secret) ≡ true)

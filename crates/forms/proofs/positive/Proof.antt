@@ -1,5 +1,5 @@
 -- `positive` stops at the first entry that is 0. Invariant: those before j are not. Assumes nothing.
-use Prim.Native.Nat.{ℕ, _+_, _≤_, _-_}
+use Prim.Native.Nat.{_≤_, _-_}
 use mathlib.Core.Path.{_≡_, sym, _∙_}
 use mathlib.Core.Bool.{true}
 use native.Mathlib.Omega.{arith}
@@ -11,8 +11,6 @@ use borrow.Author.Tests.{le-leb, lt-leb}
 use borrow.Author.Needs.{needs}
 use Rattle.forms.proofs.positive.Statement.{statement}
 use Rattle.forms.proofs.positive.Tie as tie
-use Rattle.forms.proofs.positive.Reads as reads
-use Rattle.forms.proofs.positive.Lts as lts
 
 abbrev Inv-loop : tie.InvT-loop
 Inv-loop x j₀ j = (j ≤ length x) × (every j (λ i. leb 1 (getD x i 0)) ≡ true)

@@ -1,21 +1,18 @@
 -- `rising` keeps the entry before j, or 0. Invariant: those before j rise. Assumes nothing.
-use Prim.Native.Nat.{ℕ, _+_, _≤_, _-_}
-use mathlib.Core.Path.{_≡_, sym, _∙_}
+use Prim.Native.Nat.{_≤_, _-_}
+use mathlib.Core.Path.{_≡_, sym, _∙_, refl}
 use mathlib.Core.Bool.{true}
 use native.Mathlib.Omega.{arith}
 use lib.ListN.{length, getD}
 use Rattle.lists.specs.Index.{every}
 use Rattle.lists.specs.TestLaws.{every-zero, every-next, every-stops}
-use mathlib.Core.Path.{refl}
-use mathlib.Core.List.{List, _∷_}
+use mathlib.Core.List.{_∷_}
 use native.Mathlib.Numerals.{add-one}
 use lib.Dec.{ltb}
 use borrow.Author.Tests.{lt-ltb, le-ltb}
 use borrow.Author.Needs.{needs}
 use Rattle.forms.proofs.rising.Statement.{statement}
 use Rattle.forms.proofs.rising.Tie as tie
-use Rattle.forms.proofs.rising.Reads as reads
-use Rattle.forms.proofs.rising.Lts as lts
 
 abbrev Inv-loop : tie.InvT-loop
 Inv-loop x last₀ j₀ last j = (j ≤ length x) × (last ≡ getD (0 ∷ x) j 0) × (every j (λ i. ltb (getD (0 ∷ x) i 0) (getD x i 0)) ≡ true)

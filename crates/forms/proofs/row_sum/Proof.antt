@@ -1,6 +1,6 @@
 -- `row_sum` adds one product at a time. Invariant: acc is the sum before j modulo q. Assumes nothing.
-use Prim.Native.Nat.{ℕ, _+_, _*_, _%_, _≤_, _-_}
-use mathlib.Core.Path.{_≡_, sym, ap, _∙_}
+use Prim.Native.Nat.{_+_, _*_, _%_, _≤_, _-_}
+use mathlib.Core.Path.{_≡_}
 use native.Mathlib.Omega.{arith}
 use lib.ListN.{length, getD}
 use Rattle.numbers.specs.Sum.{sum, loop-first}
@@ -9,10 +9,6 @@ use Rattle.forms.proofs.Laws.{row-next}
 use borrow.Author.Needs.{needs}
 use Rattle.forms.proofs.row_sum.Statement.{statement}
 use Rattle.forms.proofs.row_sum.Tie as tie
-use Rattle.forms.proofs.row_sum.Reads as reads
-use Rattle.forms.proofs.row_sum.Lts as lts
-use Rattle.bytes4.proofs.le32.Reads as le32-reads
-use Rattle.numbers.proofs.mul_add.Reads as mul-add-reads
 
 abbrev Inv-loop : tie.InvT-loop
 Inv-loop key from secret q acc₀ j₀ acc j = (j ≤ length secret) × (acc ≡ sum j (λ i. keyOf key .entry (from + i) * getD secret i 0) % q)

@@ -15,13 +15,6 @@ use Rattle.key.proofs.Laws.{number-1, number-2, number-3, number-4, num
 use borrow.Author.Needs.{needs}
 use Rattle.key.proofs.check.Statement.{statement}
 use Rattle.key.proofs.check.Tie as tie
-use Rattle.key.proofs.check.Reads as reads
-use Rattle.key.proofs.check.Lts as lts
-use Rattle.key.proofs.entries_below.Reads as entries-below-reads
-use Rattle.key.proofs.entry_count.Reads as entry-count-reads
-use Rattle.key.proofs.in_limits.Reads as in-limits-reads
-use Rattle.key.proofs.modulus_listed.Reads as modulus-listed-reads
-use Rattle.key.proofs.six.Reads as six-reads
 
 listed : (c : tie.Else2) → member (keyOf (c .before .before .before .before .before .args .key .now) .q) qs ≡ true
 listed c = ap (λ (q : ℕ). member q qs) (sym (c .before .before .six .ensures .q-is)) ∙ sym (c .before .modulus-listed .ensures) ∙ not-false _ (c .if2 .left)

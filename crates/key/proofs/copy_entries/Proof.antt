@@ -1,19 +1,15 @@
 -- `copy_entries` writes the entries in order. Invariant: the first j stand, and the rest of the list is as it was. Assumes nothing.
 use Rattle.key.proofs.Laws.{next}
-use lib.ListN.{length-set}
+use lib.ListN.{length-set, length, drop}
 use Prim.Native.Nat.{_≤_, _-_}
 use mathlib.Core.Path.{_≡_, refl}
 use mathlib.Core.List.{_++_}
 use native.Mathlib.Omega.{arith}
-use lib.ListN.{length, drop}
 use Rattle.lists.specs.Tab.{tab}
 use Rattle.protocol.specs.Key.{keyOf}
 use borrow.Author.Needs.{needs}
 use Rattle.key.proofs.copy_entries.Statement.{statement}
 use Rattle.key.proofs.copy_entries.Tie as tie
-use Rattle.key.proofs.copy_entries.Reads as reads
-use Rattle.key.proofs.copy_entries.Lts as lts
-use Rattle.bytes4.proofs.le32.Reads as le32-reads
 
 abbrev Inv-loop : tie.InvT-loop
 Inv-loop key count at₀ j₀ at j = (j ≤ count) × (length at ≡ length at₀) × (at ≡ tab j (keyOf key .entry) ++ drop j at₀)

@@ -1,17 +1,11 @@
 -- `entries` copies as many entries as A and t have. Assumes nothing.
-use mathlib.Core.Path.{_≡_}
+use mathlib.Core.Path.{_≡_, _∙_}
 use Rattle.protocol.specs.Key.{entries, keyOf}
-use mathlib.Core.Path.{_∙_}
 use native.Mathlib.Omega.{arith}
 use Rattle.key.specs.KeyLaws.{entries-of}
 use borrow.Author.Needs.{needs}
 use Rattle.key.proofs.entries.Statement.{statement}
 use Rattle.key.proofs.entries.Tie as tie
-use Rattle.key.proofs.entries.Reads as reads
-use Rattle.key.proofs.entries.Lts as lts
-use Rattle.key.proofs.copy_entries.Reads as copy-entries-reads
-use Rattle.key.proofs.entry_count.Reads as entry-count-reads
-use Rattle.key.proofs.numbers_of.Reads as numbers-of-reads
 
 size : (c : tie.After-entry-count) → c .entry-count .result ≡ entries (keyOf (c .before .before .before .before .args .key .now))
 size c = c .entry-count .ensures .0 ∙ entries-of _ _ (c .before .numbers-of .ensures .of)

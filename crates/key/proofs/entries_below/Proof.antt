@@ -11,9 +11,6 @@ use Rattle.lists.specs.TestLaws.{every-zero, every-next, every-stops}
 use borrow.Author.Needs.{needs}
 use Rattle.key.proofs.entries_below.Statement.{statement}
 use Rattle.key.proofs.entries_below.Tie as tie
-use Rattle.key.proofs.entries_below.Reads as reads
-use Rattle.key.proofs.entries_below.Lts as lts
-use Rattle.bytes4.proofs.le32.Reads as le32-reads
 
 abbrev Inv-loop : tie.InvT-loop
 Inv-loop key count q j₀ j = (j ≤ count) × (every j (λ i. ltb (num key (6 + i)) q) ≡ true)

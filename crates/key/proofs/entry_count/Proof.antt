@@ -5,8 +5,6 @@ use Rattle.key.specs.KeyLaws.{entries-most}
 use borrow.Author.Needs.{needs}
 use Rattle.key.proofs.entry_count.Statement.{statement}
 use Rattle.key.proofs.entry_count.Tie as tie
-use Rattle.key.proofs.entry_count.Reads as reads
-use Rattle.key.proofs.entry_count.Lts as lts
 
 add-result : tie.Need-add-result
 add-result c = search needs

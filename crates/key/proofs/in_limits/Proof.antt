@@ -11,9 +11,6 @@ use Rattle.protocol.specs.Key.{limits}
 use borrow.Author.Needs.{needs}
 use Rattle.key.proofs.in_limits.Statement.{statement}
 use Rattle.key.proofs.in_limits.Tie as tie
-use Rattle.key.proofs.in_limits.Reads as reads
-use Rattle.key.proofs.in_limits.Lts as lts
-use Rattle.key.proofs.parties_listed.Reads as parties-listed-reads
 
 returns : tie.Need-returns
 unfolding limits

@@ -2,8 +2,6 @@
 use borrow.Author.Tests.{eq-eqb, ne-eqb}
 use Rattle.key.proofs.modulus_listed.Statement.{statement}
 use Rattle.key.proofs.modulus_listed.Tie as tie
-use Rattle.key.proofs.modulus_listed.Reads as reads
-use Rattle.key.proofs.modulus_listed.Lts as lts
 
 returns : tie.Need-returns
 returns c = rw (eq-eqb _ 257 (c .if1 .taken))

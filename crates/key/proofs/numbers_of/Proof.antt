@@ -2,9 +2,6 @@
 use Rattle.key.specs.KeyLaws.{key-long, read-of}
 use Rattle.key.proofs.numbers_of.Statement.{statement}
 use Rattle.key.proofs.numbers_of.Tie as tie
-use Rattle.key.proofs.numbers_of.Reads as reads
-use Rattle.key.proofs.numbers_of.Lts as lts
-use Rattle.key.proofs.six.Reads as six-reads
 
 six-requires : tie.Need-six-requires
 six-requires c κs = key-long _ (c .before .pre)

@@ -2,8 +2,6 @@
 use borrow.Author.Tests.{eq-eqb, ne-eqb}
 use Rattle.key.proofs.parties_listed.Statement.{statement}
 use Rattle.key.proofs.parties_listed.Tie as tie
-use Rattle.key.proofs.parties_listed.Reads as reads
-use Rattle.key.proofs.parties_listed.Lts as lts
 
 returns : tie.Need-returns
 returns c = rw (eq-eqb _ 2 (c .if1 .taken))

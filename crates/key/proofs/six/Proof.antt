@@ -3,9 +3,6 @@ use Rattle.protocol.specs.Key.{keyOf}
 use borrow.Author.Needs.{needs}
 use Rattle.key.proofs.six.Statement.{statement}
 use Rattle.key.proofs.six.Tie as tie
-use Rattle.key.proofs.six.Reads as reads
-use Rattle.key.proofs.six.Lts as lts
-use Rattle.bytes4.proofs.le32.Reads as le32-reads
 
 le32-requires : tie.Need-le32-requires
 le32-requires c κs = search needs

@@ -1,0 +1,4 @@
+pub mod Laws
+pub mod Dealt
+pub mod Kept
+pub mod Held

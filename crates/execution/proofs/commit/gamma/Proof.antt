@@ -1,0 +1,61 @@
+-- `commit::gamma` meets its contract. Assumes nothing.
+use Rattle.sha.specs.State.{fed-join}
+use borrow.Author.Needs.{needs}
+use Rattle.execution.proofs.commit.gamma.Statement.{statement}
+use Rattle.execution.proofs.commit.gamma.Tie as tie
+use Rattle.execution.proofs.commit.gamma.Reads as reads
+use Rattle.execution.proofs.commit.gamma.Lts as lts
+use Rattle.execution.proofs.commit.begin.Reads as begin-reads
+use Rattle.feed.proofs.numbers.Reads as numbers-reads
+use Rattle.sha.proofs.finish.Reads as finish-reads
+use Rattle.sha.proofs.update.Reads as update-reads
+use Rattle.streams.proofs.block_of.Reads as block-of-reads
+
+-- src/commit.rt:26:9
+begin-requires : tie.Need-begin-requires
+begin-requires c κs = search needs
+
+-- src/commit.rt:27:9
+update-requires : tie.Need-update-requires
+update-requires c κs = search needs
+
+-- src/commit.rt:28:9
+numbers-requires : tie.Need-numbers-requires
+numbers-requires c κs = search needs
+
+-- src/commit.rt:29:13
+block-of-requires : tie.Need-block-of-requires
+block-of-requires c κs = search needs
+
+-- src/commit.rt:30:43
+slice-aggregate-update : tie.Need-slice-aggregate-update
+slice-aggregate-update c = search needs
+
+-- src/commit.rt:30:17
+update-requires-2 : tie.Need-update-requires-2
+update-requires-2 c κs = search needs
+
+-- src/commit.rt:30:5
+finish-requires : tie.Need-finish-requires
+finish-requires c κs = search needs
+
+-- src/commit.rt:22:1
+returns : tie.Need-returns
+returns c =
+    rw (← c .before .before .before .block-of .ensures)
+    (c .finish .ensures _
+    (c .before .before .before .before .before .before .begin .ensures .stands _ _
+    (fed-join (fed-join (c .before .before .before .before .before .update .ensures) (c .before .before .before .before .numbers .ensures)) (c .before .update2 .ensures))))
+
+pub gamma-spec : {M : Type 1} → statement M
+gamma-spec =
+    tie.close
+    (tie.spec
+    begin-requires
+    update-requires
+    numbers-requires
+    block-of-requires
+    slice-aggregate-update
+    update-requires-2
+    finish-requires
+    returns)

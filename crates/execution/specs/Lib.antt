@@ -1,0 +1,4 @@
+pub mod Begun
+pub mod Shown
+pub mod Lists
+pub mod Prepared

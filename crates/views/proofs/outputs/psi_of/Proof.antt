@@ -1,0 +1,54 @@
+-- `outputs::psi_of` meets its contract. Assumes nothing.
+use Rattle.sha.specs.State.{fed-join}
+use borrow.Author.Needs.{needs}
+use Rattle.views.proofs.outputs.psi_of.Statement.{statement}
+use Rattle.views.proofs.outputs.psi_of.Tie as tie
+
+add-begin : tie.Need-add-begin
+add-begin c = search needs
+
+begin-requires : tie.Need-begin-requires
+begin-requires c κs = search needs
+
+numbers-requires : tie.Need-numbers-requires
+numbers-requires c κs = search needs
+
+mul-block-of : tie.Need-mul-block-of
+mul-block-of c = search needs
+
+add-block-of : tie.Need-add-block-of
+add-block-of c = search needs
+
+block-of-requires : tie.Need-block-of-requires
+block-of-requires c κs = search needs
+
+slice-aggregate-update : tie.Need-slice-aggregate-update
+slice-aggregate-update c = search needs
+
+update-requires : tie.Need-update-requires
+update-requires c κs = search needs
+
+finish-requires : tie.Need-finish-requires
+finish-requires c κs = search needs
+
+returns : tie.Need-returns
+returns c =
+    rw (← c .before .before .before .block-of .ensures)
+    (c .finish .ensures _
+    (c .before .before .before .before .before .begin .ensures .stands _ _
+    (fed-join (c .before .before .before .before .numbers .ensures) (c .before .update .ensures))))
+
+pub psi-of-spec : {M : Type 1} → statement M
+psi-of-spec =
+    tie.close
+    (tie.spec
+    add-begin
+    begin-requires
+    numbers-requires
+    mul-block-of
+    add-block-of
+    block-of-requires
+    slice-aggregate-update
+    update-requires
+    finish-requires
+    returns)

@@ -1,0 +1,121 @@
+// Π and the sums of α, from the parties' b and s.
+
+ghost use mathlib.Core.Path.{_≡_};
+ghost use mathlib.Core.List.{List, _++_};
+ghost use Prim.Native.Nat.{ℕ, _+_, _*_, _<_, _≤_};
+ghost use lib.ListN.{length, getD, take, drop};
+ghost use Rattle.lists.specs.Tab.{tab};
+ghost use Rattle.numbers.specs.Inverse.{Member, qs};
+ghost use Rattle.numbers.specs.Sum.{sum};
+ghost use Rattle.sha_core.specs.Fips180.{sha256};
+ghost use Rattle.protocol.specs.Key.{Key};
+ghost use Rattle.protocol.specs.Shares.{View, Πin, αsum};
+ghost use Rattle.execution.specs.Shown.{Limits};
+ghost use Rattle.execution.specs.Lists.{alphaAt, Reduced};
+ghost use Rattle.views.specs.Seen.{ForΠ};
+use execution::commit;
+
+// α(k, i): given for the hidden party, s - b for the others.
+fn alpha(
+    q: u32,
+    m: usize,
+    parties: usize,
+    hidden: usize,
+    k: usize,
+    i: usize,
+    given: &[u8],
+    work: &[u32],
+) -> u32
+    requires { ⌜ Limits q m parties ⌝ }
+    requires { ⌜ Reduced q m parties hidden (now work) ⌝ }
+    requires { ⌜ (k < m) × (i < parties) ⌝ }
+    requires { ⌜ (hidden < parties → 4 * m ≤ length (now given)) ⌝ }
+    requires { ⌜ 3 * m * parties ≤ length (now work) ⌝ }
+    ensures { λ r. ⌜ r ≡ alphaAt q m hidden (now (given .entry)) (now (work .entry)) k i ⌝ }
+{
+    if i == hidden {
+        return bytes4::le32(given, k);
+    }
+    let own = 3 * m * i;
+    let s = own + (2 * m + k);
+    let b = own + k;
+    numbers::sub_mod(work[s], work[b], q)
+}
+
+// α(k, 1) .. α(k, N), in front.
+pub fn alpha_row(
+    q: u32,
+    m: usize,
+    parties: usize,
+    hidden: usize,
+    k: usize,
+    given: &[u8],
+    work: &[u32],
+) -> [u32; 32]
+    requires { ⌜ Limits q m parties ⌝ }
+    requires { ⌜ Reduced q m parties hidden (now work) ⌝ }
+    requires { ⌜ k < m ⌝ }
+    requires { ⌜ (hidden < parties → 4 * m ≤ length (now given)) ⌝ }
+    requires { ⌜ 3 * m * parties ≤ length (now work) ⌝ }
+    ensures { λ r. ⌜ take parties r ≡ tab parties (alphaAt q m hidden (now (given .entry)) (now (work .entry)) k) ⌝ }
+{
+    let mut row = [0u32; 32];
+    for i in 0..parties {
+        let a = alpha(q, m, parties, hidden, k, i, given, work);
+        row[i] = a;
+    }
+    row
+}
+
+// A number of 32 bits as one of 64.
+fn wide(x: u32) -> u64
+    ensures { λ r. ⌜ (r ≡ x) × (r < 4294967296) ⌝ }
+{
+    x as u64
+}
+
+// The sum of a row.
+pub fn total(xs: &[u32]) -> u64
+    requires { ⌜ length (now xs) ≤ 32 ⌝ }
+    ensures { λ r. ⌜ r ≡ sum (length (now (xs .entry))) (λ i. getD (now (xs .entry)) i 0) ⌝ }
+{
+    let mut sum: u64 = 0;
+    for i in 0..xs.len() {
+        sum += wide(xs[i]);
+    }
+    sum
+}
+
+// Π: all α(k, i), i running fastest, and block 2e of the seed κ. The sums α(1) .. α(m) go to the front of `sums`.
+pub fn pi_of(
+    q: u32,
+    m: usize,
+    parties: usize,
+    hidden: usize,
+    execution: usize,
+    given: &[u8],
+    kappa: &[u8],
+    work: &[u32],
+    sums: &mut [u32],
+) -> [u8; 32]
+    requires { ⌜ Limits q m parties ⌝ }
+    requires { ⌜ Reduced q m parties hidden (now work) ⌝ }
+    requires { ⌜ execution < 32 ⌝ }
+    requires { ⌜ (hidden < parties → 4 * m ≤ length (now given)) ⌝ }
+    requires { ⌜ length (now kappa) ≡ 16 ⌝ }
+    requires { ⌜ 3 * m * parties ≤ length (now work) ⌝ }
+    requires { ⌜ m ≤ length (now sums) ⌝ }
+    ensures { λ r. ⌜ ((K : Key) (v : View) → ForΠ q m parties hidden execution (now (given .entry)) (now (work .entry)) K v → r ≡ sha256 (Πin K v (now (kappa .entry)))) ⌝ }
+    ensures { λ _. ⌜ ((K : Key) (v : View) → ForΠ q m parties hidden execution (now (given .entry)) (now (work .entry)) K v → now (sums .exit) ≡ tab m (αsum K v) ++ drop m (now (sums .entry))) ⌝ }
+{
+    let mut s = commit::begin(6, execution + 1, 0);
+    for k in 0..m {
+        let row = alpha_row(q, m, parties, hidden, k, given, work);
+        let t = feed::numbers(s, &row[..parties]);
+        s = t;
+        let a = numbers::reduced(total(&row[..parties]), q);
+        sums[k] = a;
+    }
+    let g = streams::block_of(kappa, 2 * execution as u64);
+    sha::finish(sha::update(s, &g))
+}

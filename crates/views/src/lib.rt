@@ -1,0 +1,5 @@
+// The hashes of one execution, as whoever holds its lists computes them: h(e), Ω, Π and Ψ.
+
+pub mod answers;
+pub mod outputs;
+pub mod parties;
