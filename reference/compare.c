@@ -29,8 +29,25 @@ struct implementation {
                     uint32_t *, size_t);
 };
 
+/* With BADGE defined, the proved library beside the reference; a call that it does not have yet is the reference's again. */
+#ifdef BADGE
+#include "badge.h"
+#ifndef BADGE_MESSAGES
+#define badge_message_1 ref_message_1
+#define badge_message_3 ref_message_3
+#define badge_message_5 ref_message_5
+#define badge_message_7 ref_message_7
+#endif
+#ifndef BADGE_PAIR
+#define badge_pair ref_pair
+#endif
+#endif
+
 static const struct implementation table[] = {
     {"reference", ref_judge, ref_message_1, ref_message_3, ref_message_5, ref_message_7, ref_pair},
+#ifdef BADGE
+    {"badge", badge_judge, badge_message_1, badge_message_3, badge_message_5, badge_message_7, badge_pair},
+#endif
 };
 
 enum { IMPLEMENTATIONS = sizeof table / sizeof table[0], FILL = 0xa5 };

@@ -1,9 +1,9 @@
 -- Lists that hold seeds and what the open parties draw from them hold an execution; those that a prover fills hold the one it deals.
 -- Assumes nothing.
-use Prim.Native.Nat.{ℕ, zero, suc, _+_, _*_, _-_, _^_, _<_, _≤_}
+use Prim.Native.Nat.{ℕ, suc, _+_, _*_, _-_, _^_, _<_, _≤_}
 use mathlib.Core.Path.{_≡_, refl, sym, _∙_, ap, ap₂, subst}
 use mathlib.Core.Bool.{Bool, true, false}
-use mathlib.Core.List.{List, [], _∷_, _++_, append-nil}
+use mathlib.Core.List.{List, [], append-nil}
 use native.Mathlib.Nat.{mul-le-mul-left, zero-add}
 use native.Mathlib.Decide.{ℕ-discrete}
 use native.Mathlib.Omega.{arith}
@@ -14,14 +14,14 @@ use lib.ListN.{length, getD}
 use Rattle.lists.specs.Index.{pick, cat, part}
 use Rattle.lists.specs.CatLaws.{cat-part, cat-length}
 use Rattle.numbers.specs.Mod.{sub, sub-lt}
-use Rattle.numbers.specs.Sum.{sum, sum-ext}
+use Rattle.numbers.specs.Sum.{sum-ext}
 use Rattle.streams.specs.Streams.{number, draw, number-lt}
 use Rattle.tree.specs.Tree.{leaf}
 use Rattle.tree.specs.TreeLaws.{leaf-length}
 use Rattle.protocol.specs.Key.{Key, depth}
 use Rattle.protocol.specs.Shares.{View, isN, share, b, d, s, dealt}
-use Rattle.execution.specs.Shown.{Sized, Holds, Seeded, Shown, placeOf}
-use Rattle.execution.specs.Lists.{Put, countOf, Drawn, columnOf, lastD, lastS, Reduced}
+use Rattle.execution.specs.Shown.{Sized, Seeded, Shown, placeOf}
+use Rattle.execution.specs.Lists.{Put, countOf, Drawn, lastD, lastS, Reduced}
 use Rattle.execution.specs.Prepared.{Dealt, Opened}
 use Rattle.execution.proofs.Laws.{inside}
 

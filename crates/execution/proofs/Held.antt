@@ -2,7 +2,7 @@
 -- Assumes nothing.
 use Prim.Native.Nat.{ℕ, suc, _+_, _*_, _-_, _<_, _≤_}
 use mathlib.Core.Path.{_≡_, refl, sym, _∙_, ap, ap₂, subst}
-use mathlib.Core.Bool.{Bool, true}
+use mathlib.Core.Bool.{true}
 use mathlib.Core.List.{List}
 use native.Mathlib.Omega.{arith}
 use borrow.Author.Tests.{eq-eqb, ltb-true}
@@ -15,7 +15,7 @@ use Rattle.protocol.specs.Key.{Key, depth}
 use Rattle.protocol.specs.Shares.{View, share, b, d, s, dealt}
 use Rattle.protocol.specs.Transcript.{Parts}
 use Rattle.protocol.specs.Judge.{hidden, givenCount, replyAt, given, keptView}
-use Rattle.execution.specs.Shown.{Sized, Holds, Seeded, Shown, placeOf}
+use Rattle.execution.specs.Shown.{Sized, Holds, Shown, placeOf}
 use Rattle.execution.specs.Prepared.{Opened, Given, lastCount, givenOf}
 
 -- what holds of a key's own numbers holds of those that equal them

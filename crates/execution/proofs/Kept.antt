@@ -1,6 +1,6 @@
 -- Lists that are filled from an execution's part of part 7 hold the execution that the judge sees.
 -- Assumes nothing.
-use Prim.Native.Nat.{ℕ, zero, suc, _+_, _*_, _-_, _^_, _<_, _≤_}
+use Prim.Native.Nat.{ℕ, suc, _+_, _*_, _-_, _^_, _<_, _≤_}
 use mathlib.Core.Path.{_≡_, refl, sym, _∙_, ap, subst}
 use mathlib.Core.Bool.{Bool, true, false}
 use mathlib.Core.List.{List}
@@ -16,7 +16,7 @@ use Rattle.tree.specs.TreeLaws.{reopened-length}
 use Rattle.protocol.specs.Key.{Key, depth}
 use Rattle.protocol.specs.Transcript.{Parts}
 use Rattle.protocol.specs.Judge.{hidden, replyAt, given, keptView}
-use Rattle.execution.specs.Shown.{Sized, Seeded, Shown, placeOf}
+use Rattle.execution.specs.Shown.{Seeded, Shown, placeOf}
 use Rattle.execution.specs.Lists.{Put, Drawn, Reduced}
 use Rattle.execution.specs.Prepared.{Kept, Given, lastCount, givenOf}
 use Rattle.execution.proofs.Dealt.{with-key, drawn-put, reduced-by, seed-at, shown-by}

@@ -1,16 +1,16 @@
 -- Places of the work list, and a part of a list that was lent and filled.
 -- Assumes nothing.
-use Prim.Native.Nat.{ℕ, zero, suc, _+_, _*_, _-_, _%_, _<_, _≤_}
+use Prim.Native.Nat.{ℕ, suc, _+_, _*_, _-_, _%_, _<_, _≤_}
 use mathlib.Core.Path.{_≡_, refl, sym, _∙_, ap}
 use mathlib.Core.Bool.{Bool, true, false}
-use mathlib.Core.List.{List, [], _∷_, _++_, append-assoc}
-use native.Mathlib.Nat.{mul-le-mul-left, mul-le-mul, mod-lt}
+use mathlib.Core.List.{List, _++_}
+use native.Mathlib.Nat.{mul-le-mul-left, mul-le-mul}
 use native.Mathlib.Omega.{arith}
 use native.Mathlib.Numerals.{add-one}
 use native.Mathlib.Decide.{ℕ-discrete}
 use lib.Arith.{lt-of-le-ne}
 use lib.Dec.{eqb}
-use lib.ListN.{length, getD, take, drop, length-append, length-drop, length-take, length-set, set, List·getD-append}
+use lib.ListN.{length, getD, take, drop, length-append, length-drop, length-set, set, List·getD-append}
 use lib.Seq.{length-take-le, getD-append-add, getD-take, getD-drop, getD-set-same, getD-set-other}
 use Rattle.lists.specs.Tab.{tab, tab-at, tab-length}
 use Rattle.lists.specs.Index.{pick}
@@ -155,7 +155,7 @@ last-d-same q m N k a xs ys pos h e same =
     last : (i : ℕ) → i < N → i ≤ N - 1
     last i y = omega arith
 
-pub last-s-same : (q m N k x a : ℕ) (xs ys : List ℕ) → k < m → a ≡ 3 * m * (N - 1) + 2 * m → ((x : ℕ) → x < a → getD ys x 0 ≡ getD xs x 0)
+pub last-s-same : (q m N k x a : ℕ) (xs ys : List ℕ) → k < m → 3 * m * (N - 1) ≤ a → ((x : ℕ) → x < a → getD ys x 0 ≡ getD xs x 0)
     → lastS q m N ys x k ≡ lastS q m N xs x k
 unfolding lastS
 last-s-same q m N k x a xs ys h e same =

@@ -29,11 +29,11 @@ pub record Kept (q m N D hid : ℕ) (reply leaves work : List ℕ) : Type 0 wher
   pub shown : (K : Key) (P : Parts) (e : ℕ) → Sized q m N K → depth K ≡ D → hidden K P e ≡ hid → replyAt K P e ≡ reply
       → Shown K (keptView K P e) leaves work
 
--- how many numbers d and s of party N a reply holds
+-- Document 01, part 7: how many numbers d and s of party N a reply holds
 abbrev pub lastCount : ℕ → ℕ → ℕ → ℕ
 lastCount m N hid = pick (eqb (suc hid) N) 0 (2 * m)
 
--- the bytes of a reply's numbers
+-- Document 01, part 7: the bytes of a reply's numbers, after the opened seeds and Γ
 abbrev pub givenOf : ℕ → List ℕ → List ℕ
 givenOf D reply = drop (16 * D + 32) reply
 

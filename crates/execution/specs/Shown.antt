@@ -1,10 +1,10 @@
 -- How lent lists stand for an execution: `leaves` holds the parties' seeds, 16 bytes each, and `work` each party's b, d and s in turn,
 -- m numbers each. What stands at the hidden party's places is free.
 -- Assumes nothing.
-use Prim.Native.Nat.{ℕ, suc, _+_, _*_, _-_, _<_, _≤_}
+use Prim.Native.Nat.{ℕ, _+_, _*_, _<_, _≤_}
 use mathlib.Core.Path.{_≡_}
 use mathlib.Core.List.{List}
-use lib.ListN.{length, getD}
+use lib.ListN.{getD}
 use Rattle.lists.specs.Index.{part}
 use Rattle.numbers.specs.Inverse.{Member, qs}
 use Rattle.protocol.specs.Key.{Key}

@@ -1,8 +1,7 @@
 // Commitments and hash inputs. Every hash of the protocol is begun here, from its kind, execution and party.
 
 ghost use mathlib.Core.Path.{_≡_};
-ghost use mathlib.Core.List.{List, _++_};
-ghost use Prim.Native.Nat.{ℕ};
+ghost use mathlib.Core.List.{_++_};
 ghost use lib.ListN.{length};
 ghost use Rattle.lists.specs.Bytes.{words};
 ghost use Rattle.streams.specs.Streams.{block};

@@ -1,4 +1,4 @@
-// One execution from its seeds and shares in lent lists: commitments, answers and outputs.
+// One execution in lent lists: its seeds and shares, and the commitments to them.
 
 pub mod commit;
 pub mod prepare;

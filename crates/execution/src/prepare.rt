@@ -1,9 +1,8 @@
 // One execution's seeds and shares into lent lists: dealt by the prover, or reopened by the judge.
 
 ghost use mathlib.Core.Path.{_≡_};
-ghost use mathlib.Core.List.{List};
-ghost use Prim.Native.Nat.{ℕ, _+_, _*_, _-_, _^_, _<_, _≤_};
-ghost use lib.ListN.{length, getD};
+ghost use Prim.Native.Nat.{_+_, _*_, _-_, _^_, _<_, _≤_};
+ghost use lib.ListN.{length};
 ghost use Rattle.lists.specs.Bytes.{num};
 ghost use Rattle.execution.specs.Shown.{Limits};
 ghost use Rattle.execution.specs.Lists.{Put, Reduced};

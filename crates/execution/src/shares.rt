@@ -1,15 +1,13 @@
 // The shares of one execution in a lent work list: party i's b, d and s stand from place 3m·i on, m numbers each.
 
 ghost use mathlib.Core.Path.{_≡_};
-ghost use mathlib.Core.List.{List};
 ghost use Prim.Native.Nat.{ℕ, _+_, _*_, _-_, _<_, _≤_};
 ghost use lib.ListN.{length, getD};
-ghost use Rattle.lists.specs.Index.{part};
 ghost use Rattle.numbers.specs.Sum.{sum};
 ghost use Rattle.numbers.specs.Residue.{Residue};
 ghost use Rattle.streams.specs.Streams.{number};
-ghost use Rattle.execution.specs.Shown.{Limits, placeOf};
-ghost use Rattle.execution.specs.Lists.{Put, countOf, Drawn, columnOf, lastD, lastS, alphaAt, Reduced};
+ghost use Rattle.execution.specs.Shown.{Limits};
+ghost use Rattle.execution.specs.Lists.{Put, countOf, Drawn, lastD, lastS};
 
 // How many numbers party i draws.
 fn count_of(m: usize, parties: usize, per: usize, i: usize) -> usize

@@ -44,7 +44,7 @@ cell m entries l k = getD entries (l * m + k) 0
 abbrev pub target : ℕ → ℕ → List ℕ → ℕ → ℕ
 target n m entries l = getD entries (n * m + l) 0
 
--- Document 01, Verifier's seed: the block from which the coefficients of execution e are drawn
+-- Document 01, Shares and messages: the block from which the coefficients of execution e, counted from 0, are drawn
 abbrev pub firstBlock : ℕ → ℕ → ℕ → ℕ
 firstBlock n m e = e * ((n + m + 1) / 2)
 

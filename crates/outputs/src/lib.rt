@@ -42,6 +42,7 @@ fn joined(q: u32, start: u32, lo: u64, hi: u64) -> u32
     numbers::reduced(start as u64 + lo + 4294967296 * h as u64, q)
 }
 
+// a * b in 64 bits.
 fn product(a: u32, b: u32) -> u64
     ensures { λ r. ⌜ r ≡ a * b ⌝ }
 {
@@ -282,7 +283,8 @@ fn outputs_from(
     let mut ws = [0u32; 128];
     weights(q, n, m, cs, entries, &mut ws);
     let start = base(q, n, m, parties, cs, entries);
-    let end = n + m;
+    let first = n;
+    let end = first + m;
     all_outputs(
         q,
         m,
@@ -291,7 +293,7 @@ fn outputs_from(
         given,
         start,
         &ws,
-        &cs[n..end],
+        &cs[first..end],
         alphas,
         work,
         &mut out[..parties],

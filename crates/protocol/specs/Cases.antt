@@ -57,19 +57,19 @@ cases root =
     ∷ record {
       given =
           word64 (replicate 8 255) 0 % 257 ∷ word64 (replicate 8 255) 0 % 65537 ∷ word64 (replicate 8 255) 0 % 2147483647 ∷ [];
-      said = 0 ∷ 0 ∷ 3 ∷ []
+      said = 0 ∷ 0 ∷ 3 ∷ [];
     }
     ∷ record { given = opening 3 root 2; said = left (left root) ++ right (right (left root)) ++ right root }
     ∷ record {
       given =
           verdictE (1 ∷ 3 ∷ []) ∷ verdictE (3 ∷ 1 ∷ []) ∷ verdictE (2 ∷ 2 ∷ []) ∷ verdictE (0 ∷ 1 ∷ []) ∷ verdictE (1 ∷ 5 ∷ []) ∷ [];
-      said = 0 ∷ 7 ∷ 7 ∷ 7 ∷ 7 ∷ []
+      said = 0 ∷ 7 ∷ 7 ∷ 7 ∷ 7 ∷ [];
     }
     ∷ record {
       given =
           (24 + 4 * entries keyJ) ∷ tab 7 offset
           ++ (offset 6 + 16 + sum 2 (replySize keyJ (partsCase 2))) ∷ (offset 6 + 16 + sum 2 (replySize keyJ (partsCase 1))) ∷ [];
-      said = 36 ∷ 56 ∷ 88 ∷ 89 ∷ 169 ∷ 185 ∷ 217 ∷ 218 ∷ 294 ∷ 310 ∷ []
+      said = 36 ∷ 56 ∷ 88 ∷ 89 ∷ 169 ∷ 185 ∷ 217 ∷ 218 ∷ 294 ∷ 310 ∷ [];
     }
     ∷ []
 

@@ -135,9 +135,7 @@ fn step_at(k: &[u32; 64], w: &[u32; 64], t: usize, v: [u32; 8]) -> [u32; 8]
 // The turns t .. t + 7.
 fn eight(k: &[u32; 64], w: &[u32; 64], t: usize, v: [u32; 8]) -> [u32; 8]
     requires { ⌜ (now k ≡ K) × (t + 8 ≤ 64) ⌝ }
-    ensures {
-        λ r. ⌜ ((h x : List ℕ) → v ≡ rounds t h x → take (t + 8) (now (w .entry)) ≡ take (t + 8) x → r ≡ rounds (t + 8) h x) ⌝
-    }
+    ensures { λ r. ⌜ ((h x : List ℕ) → v ≡ rounds t h x → take (t + 8) (now (w .entry)) ≡ take (t + 8) x → r ≡ rounds (t + 8) h x) ⌝ }
 {
     let v1 = step_at(k, w, t, v);
     let v2 = step_at(k, w, t + 1, v1);

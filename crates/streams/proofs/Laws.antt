@@ -3,7 +3,7 @@
 use Prim.Native.Nat.{ℕ, _+_, _*_, _-_, _/_, _%_, _^_, _≤_, _<_, min}
 use mathlib.Core.Bool.{Bool, true, false}
 use mathlib.Core.Path.{_≡_, refl, sym, ap, ap₂, _∙_}
-use mathlib.Core.List.{List, [], _++_, append-nil}
+use mathlib.Core.List.{List, _++_, append-nil}
 use native.Mathlib.Nat.{div-eq-of-lt, lt-of-lt-of-le, not-suc-le-zero, pow-le-pow-right}
 use native.Mathlib.Omega.{arith}
 use borrow.Author.Tests.{ltb-true, ltb-false}
@@ -104,16 +104,22 @@ batches-next {n} {r} {i} {f} m y g so h size is same =
   where
     count : i + m - i ≡ m
     count = omega arith
+
     before : length (take i r) ≡ i
     before = length-take-le i r (omega arith)
+
     part : length (take (i + m - i) (drop i r)) ≡ m
     part = rw count (length-take-le m (drop i r) (simp length-drop (omega (arith))))
+
     filling : y ≡ tab m g
     filling = is ∙ ap (λ k. tab k g) part
+
     wide : length y ≡ m
     wide = ap (λ l. length l) filling ∙ tab-length m g
+
     whole-long : length (take i r ++ (y ++ drop (i + m - i) (drop i r))) ≡ n
     whole-long = simp (length-append, length-drop) (omega (arith, before, wide, so .long))
+
     go : (k : ℕ) → k < n → k < i + 32 → (t : Bool) → ltb k i ≡ t → getD (take i r ++ (y ++ drop (i + m - i) (drop i r))) k 0 ≡ f k
     go k inside b true e =
         List·getD-append (take i r) (y ++ drop (i + m - i) (drop i r)) 0 k (omega (arith, before, ltb-true k i e))

@@ -84,8 +84,10 @@ fn word_at(x: &[u8; 256], i: usize) -> u64
     ensures { λ r. ⌜ r ≡ word64 (lane (now (x .entry)) (i / 2)) (8 * (i % 2)) ⌝ }
 {
     let b = 128 * (i % 2) + i / 2;
-    let high = wide(x[b + 64]) + 256 * (wide(x[b + 80]) + 256 * (wide(x[b + 96]) + 256 * wide(x[b + 112])));
-    wide(x[b]) + 256 * (wide(x[b + 16]) + 256 * (wide(x[b + 32]) + 256 * (wide(x[b + 48]) + 256 * high)))
+    let high = wide(x[b + 64])
+        + 256 * (wide(x[b + 80]) + 256 * (wide(x[b + 96]) + 256 * wide(x[b + 112])));
+    wide(x[b])
+        + 256 * (wide(x[b + 16]) + 256 * (wide(x[b + 32]) + 256 * (wide(x[b + 48]) + 256 * high)))
 }
 
 // The numbers of sixteen blocks side by side, as many as out has room for.

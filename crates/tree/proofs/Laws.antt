@@ -1,7 +1,7 @@
 -- Laws for the steps of the walks: a lent list in two parts, the halves below a node, and what the parts hold.
 -- Assumes nothing.
 use Prim.Native.Nat.{ℕ, zero, suc, _+_, _*_, _-_, _/_, _%_, _^_, _≤_, _<_}
-use mathlib.Core.Path.{_≡_, refl, sym, ap, ap₂, _∙_, subst}
+use mathlib.Core.Path.{_≡_, refl, sym, ap, ap₂, _∙_}
 use mathlib.Core.List.{List, [], _∷_, _++_, append-nil}
 use native.Mathlib.Nat.{two-pow-succ, pow-le-pow-right, mod-eq-of-lt}
 use native.Mathlib.Omega.{arith}
@@ -10,7 +10,7 @@ use lib.Seq.{length-take-le, take-all, take-at, drop-at}
 use Rattle.lists.specs.Index.{cat}
 use Rattle.streams.specs.Streams.{block, block-length}
 use Rattle.tree.specs.Tree.{left, right, leaf, opening, reopened}
-use Rattle.tree.specs.TreeLaws.{leaves-zero, leaves-node, leaves-length, reopened-zero, reopened-left, reopened-right, all-reopened-length, opening-left, opening-right, opening-length}
+use Rattle.tree.specs.TreeLaws.{leaves-zero, leaves-node, reopened-zero, reopened-left, reopened-right, opening-left, opening-right}
 
 -- The first k places of xs are lent and come back as y; then the others are lent, and come back as z.
 abbrev pub after-front : ℕ → List ℕ → List ℕ → List ℕ

@@ -10,6 +10,7 @@ use Rattle.streams.specs.Streams.{block}
 -- A node's left child is its block 0, its right child its block 1.
 abbrev pub left : List ℕ → List ℕ
 left seed = block seed 0
+
 abbrev pub right : List ℕ → List ℕ
 right seed = block seed 1
 

@@ -2,18 +2,17 @@
 -- Assumes nothing.
 use Prim.Native.Nat.{ℕ, zero, suc, _+_, _*_, _-_, _^_, _≤_, _<_}
 use mathlib.Core.Bool.{Bool, true, false}
-use mathlib.Core.Logic.{⊎-elim}
-use mathlib.Core.Path.{_≡_, refl, sym, ap, ap₂, _∙_}
-use mathlib.Core.List.{List, [], _++_}
-use native.Mathlib.Nat.{two-pow-succ}
+use mathlib.Core.Path.{_≡_, refl, ap, ap₂, _∙_}
+use mathlib.Core.List.{List, _++_}
+use native.Mathlib.Nat.{mul-comm, two-pow-succ}
 use native.Mathlib.Omega.{arith}
 use borrow.Author.Tests.{ltb-true, ltb-false, lt-ltb, le-ltb}
 use lib.Dec.{ltb}
-use lib.ListN.{length, take, drop, replicate, length-append, length-drop, length-replicate}
+use lib.ListN.{length, take, drop, replicate, length-append, length-drop}
 use lib.Seq.{length-take-le, take-at, drop-at}
 use Rattle.lists.specs.Index.{pick, cat}
-use Rattle.lists.specs.StreamsExtra.{cat-same, cat-split, cat-wide}
-use Rattle.streams.specs.Streams.{block, block-length}
+use Rattle.lists.specs.CatLaws.{cat-ext, cat-split, cat-length}
+use Rattle.streams.specs.Streams.{block-length}
 use Rattle.tree.specs.Tree.{left, right, leaf, opening, reopened}
 
 pick-length : (n : ℕ) (b : Bool) (x y : List ℕ) → length x ≡ n → length y ≡ n → length (pick b x y) ≡ n
@@ -63,9 +62,9 @@ reopens (suc d) seed h i below inside other = go (ltb h (2 ^ d)) (ltb i (2 ^ d))
         → (h < 2 ^ d → i < 2 ^ d → reopened d h (opening d (left seed) h) i ≡ leaf d (left seed) i)
         → (2 ^ d ≤ h → 2 ^ d ≤ i → reopened d (h - 2 ^ d) (opening d (right seed) (h - 2 ^ d)) (i - 2 ^ d) ≡ leaf d (right seed) (i - 2 ^ d))
         → (let x = pick a (opening d (left seed) h ++ right seed) (left seed ++ opening d (right seed) (h - 2 ^ d)) in
-            pick a
-            (pick b (reopened d h (take (16 * d) x) i) (leaf d (drop (16 * d) x) (i - 2 ^ d)))
-            (pick b (leaf d (take 16 x) i) (reopened d (h - 2 ^ d) (drop 16 x) (i - 2 ^ d))))
+        pick a
+        (pick b (reopened d h (take (16 * d) x) i) (leaf d (drop (16 * d) x) (i - 2 ^ d)))
+        (pick b (leaf d (take 16 x) i) (reopened d (h - 2 ^ d) (drop 16 x) (i - 2 ^ d))))
         ≡ pick b (leaf d (left seed) i) (leaf d (right seed) (i - 2 ^ d))
     go true true p q lft rgt =
         ap (λ x. reopened d h x i) (take-at (opening d (left seed) h) (right seed) (16 * d) (opening-length d (left seed) h))
@@ -83,7 +82,7 @@ halves : (d : ℕ) (f g₁ g₂ : ℕ → List ℕ) → ((k : ℕ) → k < 2 ^ d
     → cat (2 ^ suc d) f ≡ cat (2 ^ d) g₁ ++ cat (2 ^ d) g₂
 halves d f g₁ g₂ p q =
     ap (λ n. cat n f) (two-pow-succ d) ∙ cat-split (2 ^ d) (2 ^ d) f
-    ∙ ap₂ (λ x y. x ++ y) (cat-same (2 ^ d) f g₁ p) (cat-same (2 ^ d) (λ k. f (2 ^ d + k)) g₂ q)
+    ∙ ap₂ (λ x y. x ++ y) (cat-ext (2 ^ d) p) (cat-ext (2 ^ d) q)
 
 -- The test of the two halves.
 in-left : (d k : ℕ) (x y : List ℕ) → k < 2 ^ d → pick (ltb k (2 ^ d)) x y ≡ x
@@ -128,10 +127,12 @@ reopened-right d h x above =
 
 -- All leaves have 16 bytes each.
 pub leaves-length : (d : ℕ) (seed : List ℕ) → length seed ≡ 16 → length (cat (2 ^ d) (leaf d seed)) ≡ 16 * 2 ^ d
-leaves-length d seed long = cat-wide (2 ^ d) 16 (leaf d seed) (λ k h. leaf-length d seed k long)
+leaves-length d seed long =
+    cat-length (2 ^ d) 16 (leaf d seed) (λ k h. leaf-length d seed k long) ∙ mul-comm (2 ^ d) 16
 
 pub all-reopened-length : (d h : ℕ) (x : List ℕ) → length x ≡ 16 * d → length (cat (2 ^ d) (reopened d h x)) ≡ 16 * 2 ^ d
-all-reopened-length d h x long = cat-wide (2 ^ d) 16 (reopened d h x) (λ k b. reopened-length d h x k long)
+all-reopened-length d h x long =
+    cat-length (2 ^ d) 16 (reopened d h x) (λ k b. reopened-length d h x k long) ∙ mul-comm (2 ^ d) 16
 
 -- An opening below a node.
 pub opening-left : (d : ℕ) (seed : List ℕ) (h : ℕ) → h < 2 ^ d → opening (suc d) seed h ≡ opening d (left seed) h ++ right seed
@@ -141,3 +142,11 @@ opening-left d seed h below = rw (lt-ltb h (2 ^ d) below)
 pub opening-right : (d : ℕ) (seed : List ℕ) (h : ℕ) → 2 ^ d ≤ h → opening (suc d) seed h ≡ left seed ++ opening d (right seed) (h - 2 ^ d)
 unfolding opening
 opening-right d seed h above = rw (le-ltb h (2 ^ d) above)
+
+-- Document 01, case h: with 8 leaves and the third hidden, the seeds of leaves 1 to 2, 4, 5 to 8, in that order.
+pub case-h : (seed : List ℕ) →
+    (opening 3 seed 2 ≡ left (left seed) ++ leaf 3 seed 3 ++ right seed)
+    × (cat 2 (leaf 3 seed) ≡ cat 2 (leaf 1 (left (left seed))))
+    × (cat 4 (λ i. leaf 3 seed (4 + i)) ≡ cat 4 (leaf 2 (right seed)))
+unfolding opening leaf cat
+case-h seed = (refl, refl, refl)

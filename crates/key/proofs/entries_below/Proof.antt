@@ -28,7 +28,7 @@ le32-requires : tie.Need-le32-requires Inv-loop μ-loop
 le32-requires c κs = search needs
 
 returns : tie.Need-returns Inv-loop μ-loop
-returns c = sym (every-stops _ _ (c .before .before .before .loop .j) (omega arith) (rw (← c .before .le32 .ensures) (le-ltb _ _ (c .if1 .taken))))
+returns c = sym (every-stops _ _ (c .before .before .before .loop .j) (omega arith) (rw (← c .before .le32 .ensures) (le-ltb (c .before .le32 .result) (c .before .before .before .before .before .args .q) (omega arith))))
 
 add-j : tie.Need-add-j Inv-loop μ-loop
 add-j c = search needs
@@ -37,7 +37,7 @@ loop-less : tie.Need-loop-less Inv-loop μ-loop
 loop-less c = search needs
 
 loop-again : tie.Need-loop-again Inv-loop μ-loop
-loop-again c = (search needs, every-next _ _ (c .before .before .before .loop .inv .1) ∙ rw (← c .before .le32 .ensures) (lt-ltb _ _ (c .if1 .left)))
+loop-again c = (search needs, every-next _ _ (c .before .before .before .loop .inv .1) ∙ rw (← c .before .le32 .ensures) (lt-ltb (c .before .le32 .result) (c .before .before .before .before .before .args .q) (omega arith)))
 
 returns-2 : tie.Need-returns-2 Inv-loop μ-loop
 returns-2 c = let e : c .before .loop .j ≡ c .before .before .before .args .count = omega arith in sym (rw e at (c .before .loop .inv .1))

@@ -26,9 +26,9 @@ slice-aggregate-fill c = sym (length-take-le _ _ (search needs))
 
 fill-requires : tie.Need-fill-requires
 fill-requires c κs =
-    let e : c .before .before .before .args .execution * ((c .before .before .before .args .n + c .before .before .before .args .m + 1) / 2) ≤ 2480 =
-    first-small _ _ _ (search needs) (search needs) (search needs) in
-    (search needs, (search needs, rw (length-take-le (c .before .before .before .args .n + c .before .before .before .args .m) (c .before .before .before .args .out .now) (search needs)) (omega arith)))
+    let z : tie.Start = c .before .before .before in
+    let e : z .args .execution * ((z .args .n + z .args .m + 1) / 2) ≤ 2480 = first-small _ _ _ (search needs) (search needs) (search needs) in
+    (search needs, (search needs, (omega arith, rw (length-take-le (z .args .n + z .args .m) (z .args .out .now) (search needs)) (omega arith))))
 
 same-length : tie.Need-same-length
 same-length c = search needs

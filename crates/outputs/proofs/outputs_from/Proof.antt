@@ -2,9 +2,10 @@
 use borrow.Author.Needs.{needs}
 use native.Mathlib.Omega.{arith}
 use mathlib.Core.Path.{sym}
+use lib.ListN.{length-take, length-drop}
 use lib.Seq.{length-take-le}
 use Rattle.numbers.specs.Inverse.{q-positive}
-use Rattle.outputs.proofs.Laws.{part-long, ready, answers}
+use Rattle.outputs.proofs.Laws.{ready, answers}
 use Rattle.outputs.proofs.outputs_from.Statement.{statement}
 use Rattle.outputs.proofs.outputs_from.Tie as tie
 
@@ -48,7 +49,7 @@ slice-aggregate-all-outputs-2 c = sym (length-take-le _ _ (c .before .before .be
 all-outputs-requires : tie.Need-all-outputs-requires
 all-outputs-requires c κs =
     let z : tie.Start = c .before .before .before .before .before .before .before .before .before .before .before .before in (
-      ready (z .pre .0) (c .before .before .before .before .before .weights .ensures) (part-long _ _ _ (z .pre .1 .1 .1 .0)) (z .pre .1 .1 .1 .1 .1 .0) (z .pre .1 .1 .1 .1 .1 .1 .0) (z .pre .1 .1 .1 .1 .1 .1 .1 .0),
+      ready (z .pre .0) (c .before .before .before .before .before .weights .ensures) (simp (length-take, length-drop) (omega (arith, z .pre .1 .1 .1 .0))) (z .pre .1 .1 .1 .1 .1 .0) (z .pre .1 .1 .1 .1 .1 .1 .0) (z .pre .1 .1 .1 .1 .1 .1 .1 .0),
       length-take-le _ _ (z .pre .1 .1 .1 .1 .1 .1 .1 .1),
     )
 

@@ -1,3 +1,4 @@
+-- `sha::aligned` feeds whole blocks, then the rest. Assumes nothing.
 use mathlib.Core.Path.{_≡_, refl, sym}
 use Prim.Native.Nat.{_*_, _/_}
 use native.Mathlib.Omega.{arith}
@@ -8,45 +9,31 @@ use Rattle.sha.proofs.Laws.{fed-parts, front-whole, blocks-stand}
 use borrow.Author.Needs.{needs}
 use Rattle.sha.proofs.aligned.Statement.{statement}
 use Rattle.sha.proofs.aligned.Tie as tie
-use Rattle.sha.proofs.aligned.Reads as reads
-use Rattle.sha.proofs.aligned.Lts as lts
-use Rattle.sha.proofs.blocks.Reads as blocks-reads
-use Rattle.sha.proofs.keep.Reads as keep-reads
-use Rattle.std.proofs.num.wrapping_add_u64.Reads as wrapping-add-u64-reads
 
--- src/lib.rt:98:13
 mul-n : tie.Need-mul-n
 mul-n c = search needs
 
--- src/lib.rt:99:23
 slice-aggregate-blocks : tie.Need-slice-aggregate-blocks
 slice-aggregate-blocks c = sym (length-take-le (length (c .before .before .before .before .args .d .now) / 64 * 64) (c .before .before .before .before .args .d .now) (omega arith))
 
--- src/lib.rt:99:9
 blocks-requires : tie.Need-blocks-requires
 blocks-requires c κs = front-whole (c .before .before .before .before .args .d .now)
 
--- src/lib.rt:100:9
 wrapping-add-u64-requires : tie.Need-wrapping-add-u64-requires
 wrapping-add-u64-requires c κs = search needs
 
--- src/lib.rt:102:13
 sub-keep : tie.Need-sub-keep
 sub-keep c = search needs
 
--- src/lib.rt:102:13
 part-keep-start : tie.Need-part-keep-start
 part-keep-start c = search needs
 
--- src/lib.rt:102:13
 part-keep-end : tie.Need-part-keep-end
 part-keep-end c = search needs
 
--- src/lib.rt:102:5
 keep-requires : tie.Need-keep-requires
 keep-requires c κs = search needs
 
--- src/lib.rt:91:1
 returns : tie.Need-returns
 returns c =
     let a = c .before .before .before .before .before .before .before .before .args in

@@ -1,3 +1,4 @@
+-- `sha::blocks` meets its contract. The loop's invariant: v is the hash value after i blocks of d, whatever whole blocks came before. Assumes nothing.
 use mathlib.Core.Path.{_≡_}
 use mathlib.Core.List.{List, _++_}
 use Prim.Native.Nat.{ℕ, _+_, _-_, _/_, _%_, _≤_}
@@ -8,9 +9,6 @@ use Rattle.sha.proofs.Laws.{blocks-none, blocks-more, blocks-all}
 use borrow.Author.Needs.{needs}
 use Rattle.sha.proofs.blocks.Statement.{statement}
 use Rattle.sha.proofs.blocks.Tie as tie
-use Rattle.sha.proofs.blocks.Reads as reads
-use Rattle.sha.proofs.blocks.Lts as lts
-use Rattle.sha_core.proofs.compress_block.Reads as compress-block-reads
 
 abbrev Inv-loop : tie.InvT-loop
 Inv-loop d v₀ i₀ i-end v i =
@@ -20,48 +18,37 @@ Inv-loop d v₀ i₀ i-end v i =
 abbrev μ-loop : tie.MeasureT-loop
 μ-loop d v₀ i₀ i-end v i = i-end - i
 
--- src/lib.rt:81:5
 loop-holds : tie.Need-loop-holds Inv-loop μ-loop
 loop-holds c = (search needs, λ m h e. blocks-none m _ _ h e)
 
--- src/lib.rt:82:17
 mul-a : tie.Need-mul-a Inv-loop μ-loop
 mul-a c = search needs
 
--- src/lib.rt:83:17
 add-e : tie.Need-add-e Inv-loop μ-loop
 add-e c = search needs
 
--- src/lib.rt:84:45
 sub-compress-block : tie.Need-sub-compress-block Inv-loop μ-loop
 sub-compress-block c = search needs
 
--- src/lib.rt:84:45
 part-compress-block-start : tie.Need-part-compress-block-start Inv-loop μ-loop
 part-compress-block-start c = search needs
 
--- src/lib.rt:84:45
 part-compress-block-end : tie.Need-part-compress-block-end Inv-loop μ-loop
 part-compress-block-end c = search needs
 
--- src/lib.rt:84:13
 compress-block-requires : tie.Need-compress-block-requires Inv-loop μ-loop
 compress-block-requires c κs = search needs
 
--- src/lib.rt:81:9
 add-i : tie.Need-add-i Inv-loop μ-loop
 add-i c = search needs
 
--- src/lib.rt:81:5
 loop-less : tie.Need-loop-less Inv-loop μ-loop
 loop-less c = search needs
 
--- src/lib.rt:81:5
 loop-again : tie.Need-loop-again Inv-loop μ-loop
 loop-again c =
     (search needs, λ m h e. blocks-more m _ _ _ _ h (c .before .before .before .loop .inv .1 m h e) (c .compress-block .ensures))
 
--- src/lib.rt:74:1
 returns : tie.Need-returns Inv-loop μ-loop
 returns c m h e =
     blocks-all m _ _ _ h (c .before .before .before .pre) (omega arith) (c .before .loop .inv .1 m h e)

@@ -1,30 +1,21 @@
+-- `sha::complete` feeds bytes that just fill the block. Assumes nothing.
 use Rattle.sha.proofs.Laws.{complete-stands, count-whole}
 use borrow.Author.Needs.{needs}
 use Rattle.sha.proofs.complete.Statement.{statement}
 use Rattle.sha.proofs.complete.Tie as tie
-use Rattle.sha.proofs.complete.Reads as reads
-use Rattle.sha.proofs.complete.Lts as lts
-use Rattle.sha.proofs.put.Reads as put-reads
-use Rattle.sha_core.proofs.compress_block.Reads as compress-block-reads
-use Rattle.std.proofs.num.wrapping_add_u64.Reads as wrapping-add-u64-reads
 
--- src/lib.rt:67:5
 put-requires : tie.Need-put-requires
 put-requires c κs = search needs
 
--- src/lib.rt:68:41
 slice-aggregate-compress-block : tie.Need-slice-aggregate-compress-block
 slice-aggregate-compress-block c = search needs
 
--- src/lib.rt:68:9
 compress-block-requires : tie.Need-compress-block-requires
 compress-block-requires c κs = search needs
 
--- src/lib.rt:69:9
 wrapping-add-u64-requires : tie.Need-wrapping-add-u64-requires
 wrapping-add-u64-requires c κs = search needs
 
--- src/lib.rt:58:1
 returns : tie.Need-returns
 returns c = (
   record {

@@ -1,3 +1,4 @@
+-- `sha::digest` meets its contract. The loop's invariant: r starts with the bytes of t words. Assumes nothing.
 use mathlib.Core.Path.{_≡_, refl, sym, _∙_}
 use Prim.Native.Nat.{_-_, _*_, _≤_}
 use native.Mathlib.Omega.{arith}
@@ -8,9 +9,6 @@ use Rattle.sha.proofs.Laws.{bytes-more}
 use borrow.Author.Needs.{needs}
 use Rattle.sha.proofs.digest.Statement.{statement}
 use Rattle.sha.proofs.digest.Tie as tie
-use Rattle.sha.proofs.digest.Reads as reads
-use Rattle.sha.proofs.digest.Lts as lts
-use Rattle.sha.proofs.low.Reads as low-reads
 
 abbrev Inv-loop : tie.InvT-loop
 Inv-loop h r₀ t₀ r t = (t ≤ 8) × (length r ≡ 32) × (take (4 * t) r ≡ bytes t h)
@@ -18,88 +16,67 @@ Inv-loop h r₀ t₀ r t = (t ≤ 8) × (length r ≡ 32) × (take (4 * t) r ≡
 abbrev μ-loop : tie.MeasureT-loop
 μ-loop h r₀ t₀ r t = 8 - t
 
--- src/lib.rt:127:5
 loop-holds : tie.Need-loop-holds Inv-loop μ-loop
 unfolding bytes
 loop-holds c = (search needs, search needs, refl)
 
--- src/lib.rt:128:17
 mul-x : tie.Need-mul-x Inv-loop μ-loop
 mul-x c = search needs
 
--- src/lib.rt:128:17
 array-read-x : tie.Need-array-read-x Inv-loop μ-loop
 array-read-x c = search needs
 
--- src/lib.rt:131:20
 low-requires : tie.Need-low-requires Inv-loop μ-loop
 low-requires c κs = search needs
 
--- src/lib.rt:131:11
 mul-r : tie.Need-mul-r Inv-loop μ-loop
 mul-r c = search needs
 
--- src/lib.rt:131:9
 array-write-r : tie.Need-array-write-r Inv-loop μ-loop
 array-write-r c = search needs
 
--- src/lib.rt:132:24
 low-requires-2 : tie.Need-low-requires-2 Inv-loop μ-loop
 low-requires-2 c κs = search needs
 
--- src/lib.rt:132:11
 mul-r-2 : tie.Need-mul-r-2 Inv-loop μ-loop
 mul-r-2 c = search needs
 
--- src/lib.rt:132:11
 add-r : tie.Need-add-r Inv-loop μ-loop
 add-r c = search needs
 
--- src/lib.rt:132:9
 array-write-r-2 : tie.Need-array-write-r-2 Inv-loop μ-loop
 array-write-r-2 c = search needs
 
--- src/lib.rt:133:24
 low-requires-3 : tie.Need-low-requires-3 Inv-loop μ-loop
 low-requires-3 c κs = search needs
 
--- src/lib.rt:133:11
 mul-r-3 : tie.Need-mul-r-3 Inv-loop μ-loop
 mul-r-3 c = search needs
 
--- src/lib.rt:133:11
 add-r-2 : tie.Need-add-r-2 Inv-loop μ-loop
 add-r-2 c = search needs
 
--- src/lib.rt:133:9
 array-write-r-3 : tie.Need-array-write-r-3 Inv-loop μ-loop
 array-write-r-3 c = search needs
 
--- src/lib.rt:134:24
 low-requires-4 : tie.Need-low-requires-4 Inv-loop μ-loop
 low-requires-4 c κs = search needs
 
--- src/lib.rt:134:11
 mul-r-4 : tie.Need-mul-r-4 Inv-loop μ-loop
 mul-r-4 c = search needs
 
--- src/lib.rt:134:11
 add-r-3 : tie.Need-add-r-3 Inv-loop μ-loop
 add-r-3 c = search needs
 
--- src/lib.rt:134:9
 array-write-r-4 : tie.Need-array-write-r-4 Inv-loop μ-loop
 array-write-r-4 c = search needs
 
--- src/lib.rt:127:9
 add-t : tie.Need-add-t Inv-loop μ-loop
 add-t c = search needs
 
--- src/lib.rt:127:5
 loop-less : tie.Need-loop-less Inv-loop μ-loop
 loop-less c = search needs
 
--- src/lib.rt:127:5
 loop-again : tie.Need-loop-again Inv-loop μ-loop
 loop-again c =
     let l = c .before .before .before .before .before .loop in (
@@ -109,7 +86,6 @@ loop-again c =
           (c .before .before .before .low .ensures) (c .before .before .low2 .ensures) (c .before .low3 .ensures) (c .low4 .ensures),
     )
 
--- src/lib.rt:123:1
 returns : tie.Need-returns Inv-loop μ-loop
 returns c =
     let e : c .before .loop .t ≡ 8 = omega arith in

@@ -1,44 +1,33 @@
+-- `sha::eight` is a number as eight bytes. Assumes nothing.
 use Rattle.sha_core.specs.Fips180.{be}
 use borrow.Author.Needs.{needs}
 use Rattle.sha.proofs.eight.Statement.{statement}
 use Rattle.sha.proofs.eight.Tie as tie
-use Rattle.sha.proofs.eight.Reads as reads
-use Rattle.sha.proofs.eight.Lts as lts
-use Rattle.sha.proofs.low_long.Reads as low-long-reads
 
--- src/lib.rt:156:6
 low-long-requires : tie.Need-low-long-requires
 low-long-requires c κs = search needs
 
--- src/lib.rt:156:19
 low-long-requires-2 : tie.Need-low-long-requires-2
 low-long-requires-2 c κs = search needs
 
--- src/lib.rt:156:32
 low-long-requires-3 : tie.Need-low-long-requires-3
 low-long-requires-3 c κs = search needs
 
--- src/lib.rt:156:45
 low-long-requires-4 : tie.Need-low-long-requires-4
 low-long-requires-4 c κs = search needs
 
--- src/lib.rt:156:58
 low-long-requires-5 : tie.Need-low-long-requires-5
 low-long-requires-5 c κs = search needs
 
--- src/lib.rt:156:71
 low-long-requires-6 : tie.Need-low-long-requires-6
 low-long-requires-6 c κs = search needs
 
--- src/lib.rt:156:84
 low-long-requires-7 : tie.Need-low-long-requires-7
 low-long-requires-7 c κs = search needs
 
--- src/lib.rt:156:97
 low-long-requires-8 : tie.Need-low-long-requires-8
 low-long-requires-8 c κs = search needs
 
--- src/lib.rt:146:1
 returns : tie.Need-returns
 unfolding be
 returns c =

@@ -1,3 +1,4 @@
+-- `sha::finish` meets its contract: what it feeds makes the padded message. Assumes nothing.
 use mathlib.Core.Path.{sym}
 use mathlib.Core.List.{_∷_}
 use Prim.Native.Nat.{_+_, _-_, _%_}
@@ -8,54 +9,38 @@ use Rattle.sha.proofs.Laws.{padded, finish-is}
 use borrow.Author.Needs.{needs}
 use Rattle.sha.proofs.finish.Statement.{statement}
 use Rattle.sha.proofs.finish.Tie as tie
-use Rattle.sha.proofs.finish.Reads as reads
-use Rattle.sha.proofs.finish.Lts as lts
-use Rattle.sha.proofs.digest.Reads as digest-reads
-use Rattle.sha.proofs.eight.Reads as eight-reads
-use Rattle.sha.proofs.update.Reads as update-reads
 
--- src/lib.rt:170:5
 array-write-p : tie.Need-array-write-p
 array-write-p c = search needs
 
--- src/lib.rt:171:15
 sub-k : tie.Need-sub-k
 sub-k c = search needs
 
--- src/lib.rt:171:14
 add-k : tie.Need-add-k
 add-k c = search needs
 
--- src/lib.rt:172:13
 eight-requires : tie.Need-eight-requires
 eight-requires c κs = search needs
 
--- src/lib.rt:173:23
 array-share-prefix-p : tie.Need-array-share-prefix-p
 array-share-prefix-p c = search needs
 
--- src/lib.rt:173:23
 slice-aggregate-update : tie.Need-slice-aggregate-update
 slice-aggregate-update c =
     sym (length-take-le ((119 - c .before .before .args .s .count % 64) % 64 + 1) (0x80 ∷ replicate 63 0) (omega arith))
 
--- src/lib.rt:173:9
 update-requires : tie.Need-update-requires
 update-requires c κs = search needs
 
--- src/lib.rt:174:23
 slice-aggregate-update-2 : tie.Need-slice-aggregate-update-2
 slice-aggregate-update-2 c = search needs
 
--- src/lib.rt:174:9
 update-requires-2 : tie.Need-update-requires-2
 update-requires-2 c κs = search needs
 
--- src/lib.rt:176:5
 digest-requires : tie.Need-digest-requires
 digest-requires c κs = search needs
 
--- src/lib.rt:165:1
 returns : tie.Need-returns
 returns c m w =
     finish-is (c .before .before .update2 .result) _ m _ (padded (c .before .before .before .before .before .before .before .args .s .count) m _ (w .counted) (c .before .before .before .before .before .before .eight .ensures)) (c .digest .ensures)

@@ -1,3 +1,4 @@
+-- `sha::put` meets its contract. The loop's invariant: i bytes of d stand after the first k of b. Assumes nothing.
 use mathlib.Core.Path.{_≡_}
 use mathlib.Core.List.{_++_}
 use Prim.Native.Nat.{_+_, _-_, _≤_}
@@ -7,8 +8,6 @@ use Rattle.sha.proofs.Laws.{put-none, put-more, put-all}
 use borrow.Author.Needs.{needs}
 use Rattle.sha.proofs.put.Statement.{statement}
 use Rattle.sha.proofs.put.Tie as tie
-use Rattle.sha.proofs.put.Reads as reads
-use Rattle.sha.proofs.put.Lts as lts
 
 abbrev Inv-loop : tie.InvT-loop
 Inv-loop b₀ k d i₀ i-end b i = (i ≤ i-end) × (length b ≡ 64) × (take (k + i) b ≡ take k b₀ ++ take i d)
@@ -16,31 +15,24 @@ Inv-loop b₀ k d i₀ i-end b i = (i ≤ i-end) × (length b ≡ 64) × (take (
 abbrev μ-loop : tie.MeasureT-loop
 μ-loop b₀ k d i₀ i-end b i = i-end - i
 
--- src/lib.rt:38:5
 loop-holds : tie.Need-loop-holds Inv-loop μ-loop
 loop-holds c = (search needs, search needs, put-none (c .args .b .now) (c .args .d .now) (c .args .at))
 
--- src/lib.rt:39:21
 shared-slice-read-b : tie.Need-shared-slice-read-b Inv-loop μ-loop
 shared-slice-read-b c = search needs
 
--- src/lib.rt:39:11
 add-b : tie.Need-add-b Inv-loop μ-loop
 add-b c = search needs
 
--- src/lib.rt:39:9
 element-write-b : tie.Need-element-write-b Inv-loop μ-loop
 element-write-b c = search needs
 
--- src/lib.rt:38:9
 add-i : tie.Need-add-i Inv-loop μ-loop
 add-i c = search needs
 
--- src/lib.rt:38:5
 loop-less : tie.Need-loop-less Inv-loop μ-loop
 loop-less c = search needs
 
--- src/lib.rt:38:5
 loop-again : tie.Need-loop-again Inv-loop μ-loop
 loop-again c = (
   search needs,
@@ -49,7 +41,6 @@ loop-again c = (
       (omega arith) (omega arith) (c .before .before .loop .inv .2),
 )
 
--- src/lib.rt:32:1
 returns : tie.Need-returns Inv-loop μ-loop
 returns c = (
   c .before .loop .inv .1,

@@ -1,12 +1,10 @@
+-- `sha::start` stands for the empty message. Assumes nothing.
 use mathlib.Core.Path.{refl}
 use Rattle.sha_core.specs.Fips180.{H0, absorb}
 use borrow.Author.Needs.{needs}
 use Rattle.sha.proofs.start.Statement.{statement}
 use Rattle.sha.proofs.start.Tie as tie
-use Rattle.sha.proofs.start.Reads as reads
-use Rattle.sha.proofs.start.Lts as lts
 
--- src/lib.rt:19:1
 returns : tie.Need-returns
 unfolding absorb H0
 returns c = record { counted = refl; hashed = refl; kept = refl }

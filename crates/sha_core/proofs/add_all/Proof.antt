@@ -1,108 +1,81 @@
+-- `sha_core::add_all` is the sums of 6.2.2, 4. Assumes nothing.
 use Rattle.sha_core.specs.Fips180.{added}
 use borrow.Author.Needs.{needs}
 use Rattle.sha_core.proofs.add_all.Statement.{statement}
 use Rattle.sha_core.proofs.add_all.Tie as tie
-use Rattle.sha_core.proofs.add_all.Reads as reads
-use Rattle.sha_core.proofs.add_all.Lts as lts
-use Rattle.std.proofs.num.wrapping_add_u32.Reads as wrapping-add-u32-reads
 
--- src/lib.rt:126:30
 array-read-wrapping-add-u32 : tie.Need-array-read-wrapping-add-u32
 array-read-wrapping-add-u32 c = search needs
 
--- src/lib.rt:126:36
 array-read-wrapping-add-u32-2 : tie.Need-array-read-wrapping-add-u32-2
 array-read-wrapping-add-u32-2 c = search needs
 
--- src/lib.rt:126:9
 wrapping-add-u32-requires : tie.Need-wrapping-add-u32-requires
 wrapping-add-u32-requires c κs = search needs
 
--- src/lib.rt:127:30
 array-read-wrapping-add-u32-3 : tie.Need-array-read-wrapping-add-u32-3
 array-read-wrapping-add-u32-3 c = search needs
 
--- src/lib.rt:127:36
 array-read-wrapping-add-u32-4 : tie.Need-array-read-wrapping-add-u32-4
 array-read-wrapping-add-u32-4 c = search needs
 
--- src/lib.rt:127:9
 wrapping-add-u32-requires-2 : tie.Need-wrapping-add-u32-requires-2
 wrapping-add-u32-requires-2 c κs = search needs
 
--- src/lib.rt:128:30
 array-read-wrapping-add-u32-5 : tie.Need-array-read-wrapping-add-u32-5
 array-read-wrapping-add-u32-5 c = search needs
 
--- src/lib.rt:128:36
 array-read-wrapping-add-u32-6 : tie.Need-array-read-wrapping-add-u32-6
 array-read-wrapping-add-u32-6 c = search needs
 
--- src/lib.rt:128:9
 wrapping-add-u32-requires-3 : tie.Need-wrapping-add-u32-requires-3
 wrapping-add-u32-requires-3 c κs = search needs
 
--- src/lib.rt:129:30
 array-read-wrapping-add-u32-7 : tie.Need-array-read-wrapping-add-u32-7
 array-read-wrapping-add-u32-7 c = search needs
 
--- src/lib.rt:129:36
 array-read-wrapping-add-u32-8 : tie.Need-array-read-wrapping-add-u32-8
 array-read-wrapping-add-u32-8 c = search needs
 
--- src/lib.rt:129:9
 wrapping-add-u32-requires-4 : tie.Need-wrapping-add-u32-requires-4
 wrapping-add-u32-requires-4 c κs = search needs
 
--- src/lib.rt:130:30
 array-read-wrapping-add-u32-9 : tie.Need-array-read-wrapping-add-u32-9
 array-read-wrapping-add-u32-9 c = search needs
 
--- src/lib.rt:130:36
 array-read-wrapping-add-u32-10 : tie.Need-array-read-wrapping-add-u32-10
 array-read-wrapping-add-u32-10 c = search needs
 
--- src/lib.rt:130:9
 wrapping-add-u32-requires-5 : tie.Need-wrapping-add-u32-requires-5
 wrapping-add-u32-requires-5 c κs = search needs
 
--- src/lib.rt:131:30
 array-read-wrapping-add-u32-11 : tie.Need-array-read-wrapping-add-u32-11
 array-read-wrapping-add-u32-11 c = search needs
 
--- src/lib.rt:131:36
 array-read-wrapping-add-u32-12 : tie.Need-array-read-wrapping-add-u32-12
 array-read-wrapping-add-u32-12 c = search needs
 
--- src/lib.rt:131:9
 wrapping-add-u32-requires-6 : tie.Need-wrapping-add-u32-requires-6
 wrapping-add-u32-requires-6 c κs = search needs
 
--- src/lib.rt:132:30
 array-read-wrapping-add-u32-13 : tie.Need-array-read-wrapping-add-u32-13
 array-read-wrapping-add-u32-13 c = search needs
 
--- src/lib.rt:132:36
 array-read-wrapping-add-u32-14 : tie.Need-array-read-wrapping-add-u32-14
 array-read-wrapping-add-u32-14 c = search needs
 
--- src/lib.rt:132:9
 wrapping-add-u32-requires-7 : tie.Need-wrapping-add-u32-requires-7
 wrapping-add-u32-requires-7 c κs = search needs
 
--- src/lib.rt:133:30
 array-read-wrapping-add-u32-15 : tie.Need-array-read-wrapping-add-u32-15
 array-read-wrapping-add-u32-15 c = search needs
 
--- src/lib.rt:133:36
 array-read-wrapping-add-u32-16 : tie.Need-array-read-wrapping-add-u32-16
 array-read-wrapping-add-u32-16 c = search needs
 
--- src/lib.rt:133:9
 wrapping-add-u32-requires-8 : tie.Need-wrapping-add-u32-requires-8
 wrapping-add-u32-requires-8 c κs = search needs
 
--- src/lib.rt:123:1
 returns : tie.Need-returns
 unfolding added
 returns c =

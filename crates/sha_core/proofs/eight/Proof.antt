@@ -1,72 +1,54 @@
+-- `sha_core::eight` is eight rounds in a row. Assumes nothing.
 use Rattle.sha_core.proofs.Laws.{eight-is}
 use borrow.Author.Needs.{needs}
 use Rattle.sha_core.proofs.eight.Statement.{statement}
 use Rattle.sha_core.proofs.eight.Tie as tie
-use Rattle.sha_core.proofs.eight.Reads as reads
-use Rattle.sha_core.proofs.eight.Lts as lts
-use Rattle.sha_core.proofs.step_at.Reads as step-at-reads
 
--- src/lib.rt:142:9
 step-at-requires : tie.Need-step-at-requires
 step-at-requires c κs = search needs
 
--- src/lib.rt:143:28
 add-step-at : tie.Need-add-step-at
 add-step-at c = search needs
 
--- src/lib.rt:143:9
 step-at-requires-2 : tie.Need-step-at-requires-2
 step-at-requires-2 c κs = search needs
 
--- src/lib.rt:144:28
 add-step-at-2 : tie.Need-add-step-at-2
 add-step-at-2 c = search needs
 
--- src/lib.rt:144:9
 step-at-requires-3 : tie.Need-step-at-requires-3
 step-at-requires-3 c κs = search needs
 
--- src/lib.rt:145:28
 add-step-at-3 : tie.Need-add-step-at-3
 add-step-at-3 c = search needs
 
--- src/lib.rt:145:9
 step-at-requires-4 : tie.Need-step-at-requires-4
 step-at-requires-4 c κs = search needs
 
--- src/lib.rt:146:28
 add-step-at-4 : tie.Need-add-step-at-4
 add-step-at-4 c = search needs
 
--- src/lib.rt:146:9
 step-at-requires-5 : tie.Need-step-at-requires-5
 step-at-requires-5 c κs = search needs
 
--- src/lib.rt:147:28
 add-step-at-5 : tie.Need-add-step-at-5
 add-step-at-5 c = search needs
 
--- src/lib.rt:147:9
 step-at-requires-6 : tie.Need-step-at-requires-6
 step-at-requires-6 c κs = search needs
 
--- src/lib.rt:148:28
 add-step-at-6 : tie.Need-add-step-at-6
 add-step-at-6 c = search needs
 
--- src/lib.rt:148:9
 step-at-requires-7 : tie.Need-step-at-requires-7
 step-at-requires-7 c κs = search needs
 
--- src/lib.rt:149:19
 add-step-at-7 : tie.Need-add-step-at-7
 add-step-at-7 c = search needs
 
--- src/lib.rt:149:5
 step-at-requires-8 : tie.Need-step-at-requires-8
 step-at-requires-8 c κs = search needs
 
--- src/lib.rt:136:1
 returns : tie.Need-returns
 returns c h x e f =
     let a = c .before .before .before .before .before .before .before .before .args in

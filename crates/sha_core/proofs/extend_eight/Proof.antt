@@ -1,3 +1,4 @@
+-- `sha_core::extend_eight` meets its contract. The loop's invariant: the array starts with W_0 .. W_(j - 1), for any block of which it started with W_0 .. W_(t - 1). Assumes nothing.
 use mathlib.Core.Path.{_≡_}
 use mathlib.Core.List.{List}
 use Prim.Native.Nat.{ℕ, _-_, _+_, _≤_}
@@ -8,9 +9,6 @@ use Rattle.sha_core.proofs.Laws.{more}
 use borrow.Author.Needs.{needs}
 use Rattle.sha_core.proofs.extend_eight.Statement.{statement}
 use Rattle.sha_core.proofs.extend_eight.Tie as tie
-use Rattle.sha_core.proofs.extend_eight.Reads as reads
-use Rattle.sha_core.proofs.extend_eight.Lts as lts
-use Rattle.sha_core.proofs.next.Reads as next-reads
 
 abbrev Inv-loop : tie.InvT-loop
 Inv-loop w₀ t e j₀ w j =
@@ -19,35 +17,27 @@ Inv-loop w₀ t e j₀ w j =
 abbrev μ-loop : tie.MeasureT-loop
 μ-loop w₀ t e j₀ w j = e - j
 
--- src/lib.rt:127:13
 add-e : tie.Need-add-e Inv-loop μ-loop
 add-e c = search needs
 
--- src/lib.rt:128:5
 loop-holds : tie.Need-loop-holds Inv-loop μ-loop
 loop-holds c = search needs
 
--- src/lib.rt:129:13
 next-requires : tie.Need-next-requires Inv-loop μ-loop
 next-requires c κs = search needs
 
--- src/lib.rt:130:9
 mul-w : tie.Need-mul-w Inv-loop μ-loop
 mul-w c = search needs
 
--- src/lib.rt:130:9
 element-write-w : tie.Need-element-write-w Inv-loop μ-loop
 element-write-w c = search needs
 
--- src/lib.rt:128:9
 add-j : tie.Need-add-j Inv-loop μ-loop
 add-j c = search needs
 
--- src/lib.rt:128:5
 loop-less : tie.Need-loop-less Inv-loop μ-loop
 loop-less c = search needs
 
--- src/lib.rt:128:5
 loop-again : tie.Need-loop-again Inv-loop μ-loop
 loop-again c =
     let l = c .before .before .before .loop in (
@@ -58,7 +48,6 @@ loop-again c =
           more b _ _ _ (omega arith) (l .inv .3 b h) (c .next .ensures b (l .inv .3 b h)),
     )
 
--- src/lib.rt:123:1
 returns : tie.Need-returns Inv-loop μ-loop
 returns c b =
     let e : c .before .loop .j ≡ c .before .before .args .t + 8 = omega arith in

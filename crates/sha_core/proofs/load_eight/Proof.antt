@@ -1,3 +1,4 @@
+-- `sha_core::load_eight` meets its contract. The loop's invariant: the array starts with W_0 .. W_(j - 1). Assumes nothing.
 use mathlib.Core.Path.{_≡_, _∙_, sym}
 use Prim.Native.Nat.{ℕ, _-_, _+_, _≤_}
 use native.Mathlib.Omega.{arith}
@@ -7,9 +8,6 @@ use Rattle.sha_core.proofs.Laws.{more, loaded}
 use borrow.Author.Needs.{needs}
 use Rattle.sha_core.proofs.load_eight.Statement.{statement}
 use Rattle.sha_core.proofs.load_eight.Tie as tie
-use Rattle.sha_core.proofs.load_eight.Reads as reads
-use Rattle.sha_core.proofs.load_eight.Lts as lts
-use Rattle.sha_core.proofs.word.Reads as word-reads
 
 abbrev Inv-loop : tie.InvT-loop
 Inv-loop w₀ b t e j₀ w j =
@@ -18,79 +16,60 @@ Inv-loop w₀ b t e j₀ w j =
 abbrev μ-loop : tie.MeasureT-loop
 μ-loop w₀ b t e j₀ w j = e - j
 
--- src/lib.rt:116:13
 add-e : tie.Need-add-e Inv-loop μ-loop
 add-e c = search needs
 
--- src/lib.rt:117:5
 loop-holds : tie.Need-loop-holds Inv-loop μ-loop
 loop-holds c = search needs
 
--- src/lib.rt:118:23
 mul-word : tie.Need-mul-word Inv-loop μ-loop
 mul-word c = search needs
 
--- src/lib.rt:118:21
 shared-slice-read-word : tie.Need-shared-slice-read-word Inv-loop μ-loop
 shared-slice-read-word c = search needs
 
--- src/lib.rt:118:33
 mul-word-2 : tie.Need-mul-word-2 Inv-loop μ-loop
 mul-word-2 c = search needs
 
--- src/lib.rt:118:33
 add-word : tie.Need-add-word Inv-loop μ-loop
 add-word c = search needs
 
--- src/lib.rt:118:31
 shared-slice-read-word-2 : tie.Need-shared-slice-read-word-2 Inv-loop μ-loop
 shared-slice-read-word-2 c = search needs
 
--- src/lib.rt:118:47
 mul-word-3 : tie.Need-mul-word-3 Inv-loop μ-loop
 mul-word-3 c = search needs
 
--- src/lib.rt:118:47
 add-word-2 : tie.Need-add-word-2 Inv-loop μ-loop
 add-word-2 c = search needs
 
--- src/lib.rt:118:45
 shared-slice-read-word-3 : tie.Need-shared-slice-read-word-3 Inv-loop μ-loop
 shared-slice-read-word-3 c = search needs
 
--- src/lib.rt:118:61
 mul-word-4 : tie.Need-mul-word-4 Inv-loop μ-loop
 mul-word-4 c = search needs
 
--- src/lib.rt:118:61
 add-word-3 : tie.Need-add-word-3 Inv-loop μ-loop
 add-word-3 c = search needs
 
--- src/lib.rt:118:59
 shared-slice-read-word-4 : tie.Need-shared-slice-read-word-4 Inv-loop μ-loop
 shared-slice-read-word-4 c = search needs
 
--- src/lib.rt:118:16
 word-requires : tie.Need-word-requires Inv-loop μ-loop
 word-requires c κs = search needs
 
--- src/lib.rt:118:9
 mul-w : tie.Need-mul-w Inv-loop μ-loop
 mul-w c = search needs
 
--- src/lib.rt:118:9
 element-write-w : tie.Need-element-write-w Inv-loop μ-loop
 element-write-w c = search needs
 
--- src/lib.rt:117:9
 add-j : tie.Need-add-j Inv-loop μ-loop
 add-j c = search needs
 
--- src/lib.rt:117:5
 loop-less : tie.Need-loop-less Inv-loop μ-loop
 loop-less c = search needs
 
--- src/lib.rt:117:5
 loop-again : tie.Need-loop-again Inv-loop μ-loop
 unfolding M
 loop-again c =
@@ -102,7 +81,6 @@ loop-again c =
           more (c .before .before .before .before .before .before .before .before .args .b .now) _ _ _ (omega arith) (l .inv .3 h) (c .word .ensures ∙ sym (loaded (c .before .before .before .before .before .before .before .before .args .b .now) _ _ (omega arith))),
     )
 
--- src/lib.rt:112:1
 returns : tie.Need-returns Inv-loop μ-loop
 returns c =
     let e : c .before .loop .j ≡ c .before .before .before .args .t + 8 = omega arith in

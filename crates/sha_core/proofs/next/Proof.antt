@@ -1,82 +1,60 @@
+-- `sha_core::next` is W_t of an array that holds the words before it. Assumes nothing.
 use Rattle.sha_core.proofs.Laws.{W-sums}
 use borrow.Author.Needs.{needs}
 use Rattle.sha_core.proofs.next.Statement.{statement}
 use Rattle.sha_core.proofs.next.Tie as tie
-use Rattle.sha_core.proofs.next.Reads as reads
-use Rattle.sha_core.proofs.next.Lts as lts
-use Rattle.sha_core.proofs.lower_one.Reads as lower-one-reads
-use Rattle.sha_core.proofs.lower_zero.Reads as lower-zero-reads
-use Rattle.std.proofs.num.wrapping_add_u32.Reads as wrapping-add-u32-reads
 
--- src/lib.rt:117:43
 sub-lower-one : tie.Need-sub-lower-one
 sub-lower-one c = search needs
 
--- src/lib.rt:117:41
 mul-lower-one : tie.Need-mul-lower-one
 mul-lower-one c = search needs
 
--- src/lib.rt:117:41
 element-copy-out-lower-one : tie.Need-element-copy-out-lower-one
 element-copy-out-lower-one c = search needs
 
--- src/lib.rt:117:31
 lower-one-requires : tie.Need-lower-one-requires
 lower-one-requires c κs = search needs
 
--- src/lib.rt:117:54
 sub-wrapping-add-u32 : tie.Need-sub-wrapping-add-u32
 sub-wrapping-add-u32 c = search needs
 
--- src/lib.rt:117:52
 mul-wrapping-add-u32 : tie.Need-mul-wrapping-add-u32
 mul-wrapping-add-u32 c = search needs
 
--- src/lib.rt:117:52
 element-copy-out-wrapping-add-u32 : tie.Need-element-copy-out-wrapping-add-u32
 element-copy-out-wrapping-add-u32 c = search needs
 
--- src/lib.rt:117:9
 wrapping-add-u32-requires : tie.Need-wrapping-add-u32-requires
 wrapping-add-u32-requires c κs = search needs
 
--- src/lib.rt:118:48
 sub-lower-zero : tie.Need-sub-lower-zero
 sub-lower-zero c = search needs
 
--- src/lib.rt:118:46
 mul-lower-zero : tie.Need-mul-lower-zero
 mul-lower-zero c = search needs
 
--- src/lib.rt:118:46
 element-copy-out-lower-zero : tie.Need-element-copy-out-lower-zero
 element-copy-out-lower-zero c = search needs
 
--- src/lib.rt:118:35
 lower-zero-requires : tie.Need-lower-zero-requires
 lower-zero-requires c κs = search needs
 
--- src/lib.rt:118:9
 wrapping-add-u32-requires-2 : tie.Need-wrapping-add-u32-requires-2
 wrapping-add-u32-requires-2 c κs = search needs
 
--- src/lib.rt:119:28
 sub-wrapping-add-u32-2 : tie.Need-sub-wrapping-add-u32-2
 sub-wrapping-add-u32-2 c = search needs
 
--- src/lib.rt:119:26
 mul-wrapping-add-u32-2 : tie.Need-mul-wrapping-add-u32-2
 mul-wrapping-add-u32-2 c = search needs
 
--- src/lib.rt:119:26
 element-copy-out-wrapping-add-u32-2 : tie.Need-element-copy-out-wrapping-add-u32-2
 element-copy-out-wrapping-add-u32-2 c = search needs
 
--- src/lib.rt:119:5
 wrapping-add-u32-requires-3 : tie.Need-wrapping-add-u32-requires-3
 wrapping-add-u32-requires-3 c κs = search needs
 
--- src/lib.rt:111:1
 returns : tie.Need-returns
 returns c b e =
     W-sums b (c .before .before .before .before .before .before .before .before .before .args .w .now) (c .before .before .before .before .before .before .before .before .before .args .t) _ _ _ _ _ (c .before .before .before .before .before .before .before .before .before .pre .0) e (c .before .before .before .before .before .before .before .lower-one .ensures)

@@ -1,3 +1,4 @@
+-- `sha_core::run` is the 64 rounds. The loop's invariant: the array starts with the first 8 i words of the schedule, and v is the state after 8 i rounds. Assumes nothing.
 use mathlib.Core.Path.{_≡_, refl, sym, _∙_}
 use mathlib.Core.List.{List}
 use Prim.Native.Nat.{ℕ, _+_, _-_, _*_, _≤_}
@@ -8,10 +9,6 @@ use Rattle.sha_core.proofs.Laws.{schedule-front}
 use borrow.Author.Needs.{needs}
 use Rattle.sha_core.proofs.run.Statement.{statement}
 use Rattle.sha_core.proofs.run.Tie as tie
-use Rattle.sha_core.proofs.run.Reads as reads
-use Rattle.sha_core.proofs.run.Lts as lts
-use Rattle.sha_core.proofs.eight.Reads as eight-reads
-use Rattle.sha_core.proofs.fill_eight.Reads as fill-eight-reads
 
 abbrev Inv-loop : tie.InvT-loop
 Inv-loop k b w₀ v₀ i₀ w v i =
@@ -20,32 +17,25 @@ Inv-loop k b w₀ v₀ i₀ w v i =
 abbrev μ-loop : tie.MeasureT-loop
 μ-loop k b w₀ v₀ i₀ w v i = 8 - i
 
--- src/lib.rt:153:5
 loop-holds : tie.Need-loop-holds Inv-loop μ-loop
 unfolding schedule rounds
 loop-holds c = (search needs, refl, refl, refl)
 
--- src/lib.rt:154:17
 mul-t : tie.Need-mul-t Inv-loop μ-loop
 mul-t c = search needs
 
--- src/lib.rt:155:9
 fill-eight-requires : tie.Need-fill-eight-requires Inv-loop μ-loop
 fill-eight-requires c κs = search needs
 
--- src/lib.rt:156:13
 eight-requires : tie.Need-eight-requires Inv-loop μ-loop
 eight-requires c κs = search needs
 
--- src/lib.rt:153:9
 add-i : tie.Need-add-i Inv-loop μ-loop
 add-i c = search needs
 
--- src/lib.rt:153:5
 loop-less : tie.Need-loop-less Inv-loop μ-loop
 loop-less c = search needs
 
--- src/lib.rt:153:5
 loop-again : tie.Need-loop-again Inv-loop μ-loop
 loop-again c =
     let l = c .before .before .before .before .before .loop in
@@ -58,7 +48,6 @@ loop-again c =
       rw e (c .eight .ensures _ (schedule 64 b) (l .inv .3) (f .words (l .inv .2) ∙ sym (schedule-front (8 * l .i + 8) 64 b (omega arith)))),
     )
 
--- src/lib.rt:147:1
 returns : tie.Need-returns Inv-loop μ-loop
 returns c =
     let e : c .before .loop .i ≡ 8 = omega arith in rw e at (c .before .loop .inv .3)

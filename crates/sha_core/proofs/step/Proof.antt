@@ -1,124 +1,90 @@
+-- `sha_core::step` is one round: T_1 and T_2 are summed two at a time. Assumes nothing.
 use Rattle.sha_core.proofs.Laws.{T1-sums, round-is}
 use borrow.Author.Needs.{needs}
 use Rattle.sha_core.proofs.step.Statement.{statement}
 use Rattle.sha_core.proofs.step.Tie as tie
-use Rattle.sha_core.proofs.step.Reads as reads
-use Rattle.sha_core.proofs.step.Lts as lts
-use Rattle.sha_core.proofs.ch.Reads as ch-reads
-use Rattle.sha_core.proofs.maj.Reads as maj-reads
-use Rattle.sha_core.proofs.upper_one.Reads as upper-one-reads
-use Rattle.sha_core.proofs.upper_zero.Reads as upper-zero-reads
-use Rattle.std.proofs.num.wrapping_add_u32.Reads as wrapping-add-u32-reads
 
--- src/lib.rt:64:31
 array-read-wrapping-add-u32 : tie.Need-array-read-wrapping-add-u32
 array-read-wrapping-add-u32 c = search needs
 
--- src/lib.rt:64:47
 array-read-upper-one : tie.Need-array-read-upper-one
 array-read-upper-one c = search needs
 
--- src/lib.rt:64:37
 upper-one-requires : tie.Need-upper-one-requires
 upper-one-requires c κs = search needs
 
--- src/lib.rt:64:9
 wrapping-add-u32-requires : tie.Need-wrapping-add-u32-requires
 wrapping-add-u32-requires c κs = search needs
 
--- src/lib.rt:65:38
 array-read-ch : tie.Need-array-read-ch
 array-read-ch c = search needs
 
--- src/lib.rt:65:44
 array-read-ch-2 : tie.Need-array-read-ch-2
 array-read-ch-2 c = search needs
 
--- src/lib.rt:65:50
 array-read-ch-3 : tie.Need-array-read-ch-3
 array-read-ch-3 c = search needs
 
--- src/lib.rt:65:35
 ch-requires : tie.Need-ch-requires
 ch-requires c κs = search needs
 
--- src/lib.rt:65:9
 wrapping-add-u32-requires-2 : tie.Need-wrapping-add-u32-requires-2
 wrapping-add-u32-requires-2 c κs = search needs
 
--- src/lib.rt:66:9
 wrapping-add-u32-requires-3 : tie.Need-wrapping-add-u32-requires-3
 wrapping-add-u32-requires-3 c κs = search needs
 
--- src/lib.rt:67:9
 wrapping-add-u32-requires-4 : tie.Need-wrapping-add-u32-requires-4
 wrapping-add-u32-requires-4 c κs = search needs
 
--- src/lib.rt:68:42
 array-read-upper-zero : tie.Need-array-read-upper-zero
 array-read-upper-zero c = search needs
 
--- src/lib.rt:68:31
 upper-zero-requires : tie.Need-upper-zero-requires
 upper-zero-requires c κs = search needs
 
--- src/lib.rt:68:53
 array-read-maj : tie.Need-array-read-maj
 array-read-maj c = search needs
 
--- src/lib.rt:68:59
 array-read-maj-2 : tie.Need-array-read-maj-2
 array-read-maj-2 c = search needs
 
--- src/lib.rt:68:65
 array-read-maj-3 : tie.Need-array-read-maj-3
 array-read-maj-3 c = search needs
 
--- src/lib.rt:68:49
 maj-requires : tie.Need-maj-requires
 maj-requires c κs = search needs
 
--- src/lib.rt:68:9
 wrapping-add-u32-requires-5 : tie.Need-wrapping-add-u32-requires-5
 wrapping-add-u32-requires-5 c κs = search needs
 
--- src/lib.rt:69:9
 wrapping-add-u32-requires-6 : tie.Need-wrapping-add-u32-requires-6
 wrapping-add-u32-requires-6 c κs = search needs
 
--- src/lib.rt:70:30
 array-read-wrapping-add-u32-2 : tie.Need-array-read-wrapping-add-u32-2
 array-read-wrapping-add-u32-2 c = search needs
 
--- src/lib.rt:70:9
 wrapping-add-u32-requires-7 : tie.Need-wrapping-add-u32-requires-7
 wrapping-add-u32-requires-7 c κs = search needs
 
--- src/lib.rt:71:9
 array-read-t35 : tie.Need-array-read-t35
 array-read-t35 c = search needs
 
--- src/lib.rt:71:15
 array-read-t14 : tie.Need-array-read-t14
 array-read-t14 c = search needs
 
--- src/lib.rt:71:21
 array-read-t32 : tie.Need-array-read-t32
 array-read-t32 c = search needs
 
--- src/lib.rt:71:30
 array-read-t18 : tie.Need-array-read-t18
 array-read-t18 c = search needs
 
--- src/lib.rt:71:36
 array-read-t15 : tie.Need-array-read-t15
 array-read-t15 c = search needs
 
--- src/lib.rt:71:42
 array-read-t25 : tie.Need-array-read-t25
 array-read-t25 c = search needs
 
--- src/lib.rt:61:1
 returns : tie.Need-returns
 returns c =
     round-is (c .before .before .before .before .before .before .before .before .before .before .before .args .t1) _ _ _ _ _ _ _ _

@@ -1,3 +1,4 @@
+-- `streams::fill` meets its contract. The invariant: the numbers before `at` are written, 32 more with each turn. Assumes nothing.
 use borrow.Author.Needs.{needs}
 use Prim.Native.Nat.{_-_}
 use mathlib.Core.Path.{ap, _∙_}
@@ -8,12 +9,6 @@ use Rattle.streams.specs.Streams.{number}
 use Rattle.streams.proofs.Laws.{Batches, batches-start, batches-next, batches-done, number-from, part-small}
 use Rattle.streams.proofs.fill.Statement.{statement}
 use Rattle.streams.proofs.fill.Tie as tie
-use Rattle.streams.proofs.fill.Reads as reads
-use Rattle.streams.proofs.fill.Lts as lts
-use Rattle.aes.proofs.expand.Reads as expand-reads
-use Rattle.streams.proofs.batch.Reads as batch-reads
-use Rattle.streams.proofs.from_block.Reads as from-block-reads
-use Rattle.streams.proofs.key_of.Reads as key-of-reads
 
 abbrev Inv-loop : tie.InvT-loop
 Inv-loop seed c q out₀ w at₀ out at = Batches (length out₀) out at (number q seed c)
@@ -21,71 +16,63 @@ Inv-loop seed c q out₀ w at₀ out at = Batches (length out₀) out at (number
 abbrev μ-loop : tie.MeasureT-loop
 μ-loop seed c q out₀ w at₀ out at = length out₀ - at
 
--- src/lib.rt:131:25
 key-of-requires : tie.Need-key-of-requires Inv-loop μ-loop
 key-of-requires c κs = search needs
 
--- src/lib.rt:131:13
 expand-requires : tie.Need-expand-requires Inv-loop μ-loop
 expand-requires c κs = search needs
 
--- src/lib.rt:133:5
 loop-holds : tie.Need-loop-holds Inv-loop μ-loop
 loop-holds c = batches-start _ _
 
--- src/lib.rt:134:28
 sub-batch : tie.Need-sub-batch Inv-loop μ-loop
 sub-batch c = search needs
 
--- src/lib.rt:134:22
 batch-requires : tie.Need-batch-requires Inv-loop μ-loop
 batch-requires c κs = search needs
 
--- src/lib.rt:134:17
 add-e : tie.Need-add-e Inv-loop μ-loop
 add-e c = search needs
 
--- src/lib.rt:135:24
 add-from-block : tie.Need-add-from-block Inv-loop μ-loop
 add-from-block c = search needs
 
--- src/lib.rt:135:48
 mul-from-block : tie.Need-mul-from-block Inv-loop μ-loop
 mul-from-block c = search needs
 
--- src/lib.rt:135:48
 sub-from-block : tie.Need-sub-from-block Inv-loop μ-loop
 sub-from-block c = search needs
 
--- src/lib.rt:135:48
 part-from-block-start : tie.Need-part-from-block-start Inv-loop μ-loop
 part-from-block-start c = search needs
 
--- src/lib.rt:135:48
 part-from-block-end : tie.Need-part-from-block-end Inv-loop μ-loop
 part-from-block-end c = search needs
 
--- src/lib.rt:135:9
 from-block-requires : tie.Need-from-block-requires Inv-loop μ-loop
-from-block-requires c κs = let b = c .before .before .batch in let l = c .before .before .before .before .loop in (search needs, (c .before .before .before .before .before .before .before .before .before .pre .1 .0, part-small (l .at) (b .result) (l .out) (b .ensures)))
+from-block-requires c κs =
+    let size = c .before .before .batch in
+    let l = c .before .before .before .before .loop in
+    (search needs, (c .before .before .before .before .before .before .before .before .before .pre .1 .0, part-small (l .at) (size .result) (l .out) (size .ensures)))
 
--- src/lib.rt:136:9
 add-at : tie.Need-add-at Inv-loop μ-loop
 add-at c = search needs
 
--- src/lib.rt:133:5
 loop-less : tie.Need-loop-less Inv-loop μ-loop
 loop-less c = search needs
 
--- src/lib.rt:133:5
 loop-again : tie.Need-loop-again Inv-loop μ-loop
-loop-again c = let s = c .before .before .before .before .before .before .before .before .before .before .before .before in let l = c .before .before .before .before .before .before .before .loop in batches-next (c .before .before .before .before .before .batch .result) (c .before .before .from-block .last .1 .1 .1 .0) _ (l .inv) (c .before .before .before .before .before .before .loop-test .taken) (c .before .before .before .before .before .batch .ensures) (c .before .before .from-block .ensures) (λ k. number-from (s .args .q) (s .args .c) (l .at) k (s .args .seed .now) (c .before .before .before .before .before .before .before .before .expand .result) (c .before .before .before .before .before .before .before .before .expand .ensures ∙ ap (λ x. keyExpansion x) (c .before .before .before .before .before .before .before .before .before .key-of .ensures)) (l .inv .even))
+loop-again c =
+    let s = c .before .before .before .before .before .before .before .before .before .before .before .before in
+    let l = c .before .before .before .before .before .before .before .loop in
+    let key = c .before .before .before .before .before .before .before .before .expand in
+    let numbers = c .before .before .from-block in
+    batches-next (c .before .before .before .before .before .batch .result) (numbers .last .1 .1 .1 .0) _ (l .inv) (c .before .before .before .before .before .before .loop-test .taken) (c .before .before .before .before .before .batch .ensures) (numbers .ensures)
+    (λ k. number-from (s .args .q) (s .args .c) (l .at) k (s .args .seed .now) (key .result) (key .ensures ∙ ap (λ x. keyExpansion x) (c .before .before .before .before .before .before .before .before .before .key-of .ensures)) (l .inv .even))
 
--- src/lib.rt:124:1
 same-length : tie.Need-same-length Inv-loop μ-loop
 same-length c = search needs
 
--- src/lib.rt:124:1
 returns : tie.Need-returns Inv-loop μ-loop
 returns c = batches-done (c .before .loop .inv) (omega arith)
 

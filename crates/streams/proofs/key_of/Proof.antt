@@ -1,13 +1,12 @@
+-- `streams::key_of` meets its contract. The loop fills the key from the front. Assumes nothing.
 use borrow.Author.Needs.{needs}
-use Rattle.streams.proofs.Laws.{zeros, whole, all-copied}
-use Prim.Native.Nat.{_*_, _-_, _/_, _%_, _^_}
-use mathlib.Core.Path.{refl, sym, _∙_}
+use Rattle.streams.proofs.Laws.{whole}
+use Prim.Native.Nat.{_-_}
+use mathlib.Core.Path.{refl, _∙_}
 use lib.ListN.{getD}
-use Rattle.lists.specs.Tab.{Filling, start, more, done, list-tab}
+use Rattle.lists.specs.Tab.{Filling, start, more, done}
 use Rattle.streams.proofs.key_of.Statement.{statement}
 use Rattle.streams.proofs.key_of.Tie as tie
-use Rattle.streams.proofs.key_of.Reads as reads
-use Rattle.streams.proofs.key_of.Lts as lts
 
 abbrev Inv-loop : tie.InvT-loop
 Inv-loop seed r₀ i₀ r i = Filling 16 r i (λ k. getD seed k 0)
@@ -15,31 +14,24 @@ Inv-loop seed r₀ i₀ r i = Filling 16 r i (λ k. getD seed k 0)
 abbrev μ-loop : tie.MeasureT-loop
 μ-loop seed r₀ i₀ r i = 16 - i
 
--- src/lib.rt:15:5
 loop-holds : tie.Need-loop-holds Inv-loop μ-loop
 loop-holds c = start _ _ refl
 
--- src/lib.rt:16:16
 shared-slice-read-r : tie.Need-shared-slice-read-r Inv-loop μ-loop
 shared-slice-read-r c = search needs
 
--- src/lib.rt:16:9
 array-write-r : tie.Need-array-write-r Inv-loop μ-loop
 array-write-r c = search needs
 
--- src/lib.rt:15:9
 add-i : tie.Need-add-i Inv-loop μ-loop
 add-i c = search needs
 
--- src/lib.rt:15:5
 loop-less : tie.Need-loop-less Inv-loop μ-loop
 loop-less c = search needs
 
--- src/lib.rt:15:5
 loop-again : tie.Need-loop-again Inv-loop μ-loop
 loop-again c = more (c .before .before .loop .inv) (c .before .loop-test .taken) refl
 
--- src/lib.rt:10:1
 returns : tie.Need-returns Inv-loop μ-loop
 returns c = done (c .before .loop .inv) (c .loop-test .left) ∙ whole 16 _ (c .before .before .pre)
 

@@ -1,17 +1,13 @@
+-- `streams::numbers_of` meets its contract. The loop fills out from the front. Assumes nothing.
 use borrow.Author.Needs.{needs}
 use Prim.Native.Nat.{_*_, _-_, _/_, _%_}
 use mathlib.Core.Path.{refl, ap, _∙_}
-use native.Mathlib.Omega.{arith}
 use lib.ListN.{length}
 use Rattle.lists.specs.Tab.{Filling, start, more, done}
 use Rattle.aes_wide.specs.Wide.{lane}
 use Rattle.streams.specs.Streams.{word64}
 use Rattle.streams.proofs.numbers_of.Statement.{statement}
 use Rattle.streams.proofs.numbers_of.Tie as tie
-use Rattle.streams.proofs.numbers_of.Reads as reads
-use Rattle.streams.proofs.numbers_of.Lts as lts
-use Rattle.numbers.proofs.reduced.Reads as reduced-reads
-use Rattle.streams.proofs.word_at.Reads as word-at-reads
 
 abbrev Inv-loop : tie.InvT-loop
 Inv-loop x q out₀ i₀ i-end out i = Filling (length out₀) out i (λ k. word64 (lane x (k / 2)) (8 * (k % 2)) % q)
@@ -19,43 +15,36 @@ Inv-loop x q out₀ i₀ i-end out i = Filling (length out₀) out i (λ k. word
 abbrev μ-loop : tie.MeasureT-loop
 μ-loop x q out₀ i₀ i-end out i = length out₀ - i
 
--- src/lib.rt:96:5
 loop-holds : tie.Need-loop-holds Inv-loop μ-loop
 loop-holds c = start _ _ refl
 
--- src/lib.rt:97:35
 word-at-requires : tie.Need-word-at-requires Inv-loop μ-loop
 word-at-requires c κs = search needs
 
--- src/lib.rt:97:18
 reduced-requires : tie.Need-reduced-requires Inv-loop μ-loop
 reduced-requires c κs = search needs
 
--- src/lib.rt:97:9
 mul-out : tie.Need-mul-out Inv-loop μ-loop
 mul-out c = search needs
 
--- src/lib.rt:97:9
 slice-write-out : tie.Need-slice-write-out Inv-loop μ-loop
 slice-write-out c = search needs
 
--- src/lib.rt:96:9
 add-i : tie.Need-add-i Inv-loop μ-loop
 add-i c = search needs
 
--- src/lib.rt:96:5
 loop-less : tie.Need-loop-less Inv-loop μ-loop
 loop-less c = search needs
 
--- src/lib.rt:96:5
 loop-again : tie.Need-loop-again Inv-loop μ-loop
-loop-again c = more (c .before .before .before .loop .inv) (c .before .before .loop-test .taken) (c .reduced .ensures .is ∙ ap (λ y. y % c .before .before .before .before .before .args .q) (c .before .word-at .ensures))
+loop-again c =
+    let q = c .before .before .before .before .before .args .q in
+    more (c .before .before .before .loop .inv) (c .before .before .loop-test .taken)
+    (c .reduced .ensures .is ∙ ap (λ y. y % q) (c .before .word-at .ensures))
 
--- src/lib.rt:91:1
 same-length : tie.Need-same-length Inv-loop μ-loop
 same-length c = search needs
 
--- src/lib.rt:91:1
 returns : tie.Need-returns Inv-loop μ-loop
 returns c = done (c .before .loop .inv) (c .loop-test .left)
 

@@ -1,3 +1,4 @@
+-- `tree::leaves` meets its contract: the two calls fill the two halves of the list. The measure is the depth. Assumes nothing.
 use borrow.Author.Needs.{needs}
 use Prim.Native.Nat.{ℕ, _<_}
 use mathlib.Core.Path.{_≡_, sym, _∙_}
@@ -28,7 +29,9 @@ abbrev cs : ℕ → leaves-lts.Claims
 cs t = (copy-reads.Asked, copy-reads.Learnt, two-blocks-reads.Asked, two-blocks-reads.Learnt, leaves-below t, leaves.Post)
 
 leaves-copy-requires : (t : ℕ) → leaves-lts.Need-copy-requires (cs t) (leaves-at t) leaves.Post
-leaves-copy-requires t c κs = let s = c .before .before .before .before in root-long _ (s .args .seed .now) (s .args .out .now) (c .before .if1 .taken) (s .pre .1 .0) (s .pre .1 .1)
+leaves-copy-requires t c κs =
+    let s = c .before .before .before .before in
+    root-long (s .args .depth) (s .args .seed .now) (s .args .out .now) (c .before .if1 .taken) (s .pre .1 .0) (s .pre .1 .1)
 
 leaves-same-length : (t : ℕ) → leaves-lts.Need-same-length (cs t) (leaves-at t) leaves.Post
 leaves-same-length t c = search needs
@@ -46,7 +49,9 @@ leaves-array-share-prefix-x : (t : ℕ) → leaves-lts.Need-array-share-prefix-x
 leaves-array-share-prefix-x t c = search needs
 
 leaves-slice-aggregate-leaves : (t : ℕ) → leaves-lts.Need-slice-aggregate-leaves (cs t) (leaves-at t) leaves.Post
-leaves-slice-aggregate-leaves t c = let long : length (c .before .two-blocks .result) ≡ 32 = search needs in front-long 16 (c .before .two-blocks .result) (omega arith)
+leaves-slice-aggregate-leaves t c =
+    let x = c .before .two-blocks .result in
+    let long : length x ≡ 32 = search needs in front-long 16 x (omega arith)
 
 leaves-slice-relend-prefix-leaves : (t : ℕ) → leaves-lts.Need-slice-relend-prefix-leaves (cs t) (leaves-at t) leaves.Post
 leaves-slice-relend-prefix-leaves t c = search needs
@@ -55,7 +60,11 @@ leaves-slice-aggregate-leaves-2 : (t : ℕ) → leaves-lts.Need-slice-aggregate-
 leaves-slice-aggregate-leaves-2 t c = front-long _ _ (omega arith)
 
 leaves-leaves-requires : (t : ℕ) → leaves-lts.Need-leaves-requires (cs t) (leaves-at t) leaves.Post
-leaves-leaves-requires t c κs = let long : length (c .before .before .two-blocks .result) ≡ 32 = search needs in (search needs, (length-take-le 16 (c .before .before .two-blocks .result) (omega arith), first-long (c .before .before .before .before .before .before .args .depth) (c .before .before .before .before .before .before .args .out .now) (c .before .before .before .if1 .left) (c .before .before .before .before .before .before .pre .1 .1)))
+leaves-leaves-requires t c κs =
+    let s = c .before .before .before .before .before .before in
+    let x = c .before .before .two-blocks .result in
+    let long : length x ≡ 32 = search needs in
+    (search needs, (length-take-le 16 x (omega arith), first-long (s .args .depth) (s .args .out .now) (c .before .before .before .if1 .left) (s .pre .1 .1)))
 
 leaves-sub-leaves-2 : (t : ℕ) → leaves-lts.Need-sub-leaves-2 (cs t) (leaves-at t) leaves.Post
 leaves-sub-leaves-2 t c = search needs
@@ -79,13 +88,24 @@ leaves-part-leaves-end-2 : (t : ℕ) → leaves-lts.Need-part-leaves-end-2 (cs t
 leaves-part-leaves-end-2 t c = search needs
 
 leaves-leaves-requires-2 : (t : ℕ) → leaves-lts.Need-leaves-requires-2 (cs t) (leaves-at t) leaves.Post
-leaves-leaves-requires-2 t c κs = let long : length (c .before .before .before .before .before .before .before .before .two-blocks .result) ≡ 32 = search needs in (search needs, (tail-long (c .before .before .before .before .before .before .before .before .two-blocks .result) long, second-long (c .before .before .before .before .before .before .before .before .before .before .before .before .args .depth) (c .before .before .before .before .before .before .before .before .before .before .before .before .args .out .now) (c .before .before .before .before .before .leaves .last .1 .1 .0) (c .before .before .before .before .before .before .before .before .before .if1 .left) (c .before .before .before .before .before .before .before .before .before .before .before .before .pre .1 .1) (c .before .before .before .before .before .leaves .kept .1 .1 .0)))
+leaves-leaves-requires-2 t c κs =
+    let s = c .before .before .before .before .before .before .before .before .before .before .before .before in
+    let x = c .before .before .before .before .before .before .before .before .two-blocks .result in
+    let first = c .before .before .before .before .before .leaves in
+    let long : length x ≡ 32 = search needs in
+    (search needs, (tail-long x long, second-long (s .args .depth) (s .args .out .now) (first .last .1 .1 .0) (c .before .before .before .before .before .before .before .before .before .if1 .left) (s .pre .1 .1) (first .kept .1 .1 .0)))
 
 leaves-same-length-2 : (t : ℕ) → leaves-lts.Need-same-length-2 (cs t) (leaves-at t) leaves.Post
 leaves-same-length-2 t c = search needs
 
 leaves-returns-2 : (t : ℕ) → leaves-lts.Need-returns-2 (cs t) (leaves-at t) leaves.Post
-leaves-returns-2 t c = leaves-done (c .before .before .before .before .before .before .before .before .before .before .before .before .before .before .before .args .depth) (c .before .before .before .before .before .before .before .before .before .before .before .before .before .before .before .args .seed .now) (c .before .before .before .before .before .before .before .before .before .before .before .two-blocks .result) (c .before .before .before .before .before .before .before .before .before .before .before .before .before .before .before .args .out .now) (c .before .before .before .before .before .before .before .before .leaves .last .1 .1 .0) (c .before .before .leaves2 .last .1 .1 .0) (c .before .before .before .before .before .before .before .before .before .before .before .before .if1 .left) (c .before .before .before .before .before .before .before .before .before .before .before .before .before .before .before .pre .1 .1) (c .before .before .before .before .before .before .before .before .before .before .before .two-blocks .ensures) (c .before .before .before .before .before .before .before .before .leaves .ensures) (c .before .before .leaves2 .ensures) (c .before .before .before .before .before .before .before .before .leaves .kept .1 .1 .0)
+leaves-returns-2 t c =
+    let s = c .before .before .before .before .before .before .before .before .before .before .before .before .before .before .before in
+    let children = c .before .before .before .before .before .before .before .before .before .before .before .two-blocks in
+    let first = c .before .before .before .before .before .before .before .before .leaves in
+    let second = c .before .before .leaves2 in
+    leaves-done (s .args .depth) (s .args .seed .now) (children .result) (s .args .out .now) (first .last .1 .1 .0) (second .last .1 .1 .0)
+    (c .before .before .before .before .before .before .before .before .before .before .before .before .if1 .left) (s .pre .1 .1) (children .ensures) (first .ensures) (second .ensures) (first .kept .1 .1 .0)
 
 pub +leaves-spec : {M : Type 1} → statement M
 +leaves-spec = close μ-leaves λ t. leaves-lts.spec (cs t)

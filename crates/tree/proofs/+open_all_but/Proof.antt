@@ -1,6 +1,8 @@
+-- `tree::open_all_but` meets its contract: the walk goes on below one child, and the other child's seed stands before or after it. The measure is the depth.
+-- Assumes nothing.
 use borrow.Author.Needs.{needs}
 use Prim.Native.Nat.{ℕ, _*_, _-_, _<_}
-use mathlib.Core.Path.{_≡_, sym, _∙_}
+use mathlib.Core.Path.{_≡_, _∙_}
 use native.Mathlib.Omega.{arith}
 use lib.ListN.{length}
 use lib.Seq.{length-take-le}
@@ -34,7 +36,9 @@ abbrev cs : ℕ → open-all-but-lts.Claims
 cs t = (two-blocks-reads.Asked, two-blocks-reads.Learnt, open-all-but-below t, open-all-but.Post, copy-reads.Asked, copy-reads.Learnt)
 
 open-all-but-returns : (t : ℕ) → open-all-but-lts.Need-returns (cs t) (open-all-but-at t) open-all-but.Post
-open-all-but-returns t c = let s = c .before .before .before in opening-root (s .args .depth) (s .args .seed .now) (s .args .h) (s .args .out .now) (c .if1 .taken) (s .pre .1 .1 .0)
+open-all-but-returns t c =
+    let s = c .before .before .before in
+    opening-root (s .args .depth) (s .args .seed .now) (s .args .h) (s .args .out .now) (c .if1 .taken) (s .pre .1 .1 .0)
 
 open-all-but-two-blocks-requires : (t : ℕ) → open-all-but-lts.Need-two-blocks-requires (cs t) (open-all-but-at t) open-all-but.Post
 open-all-but-two-blocks-requires t c κs = search needs
@@ -60,7 +64,9 @@ open-all-but-slice-aggregate-open-all-but :
       copy-reads.Asked,
       copy-reads.Learnt,
     ) (open-all-but-at t) open-all-but.Post
-open-all-but-slice-aggregate-open-all-but t c = let long : length (c .before .before .two-blocks .result) ≡ 32 = search needs in front-long 16 (c .before .before .two-blocks .result) (omega arith)
+open-all-but-slice-aggregate-open-all-but t c =
+    let x = c .before .before .two-blocks .result in
+    let long : length x ≡ 32 = search needs in front-long 16 x (omega arith)
 
 open-all-but-slice-relend-prefix-open-all-but :
     (t : ℕ) → open-all-but-lts.Need-slice-relend-prefix-open-all-but (
@@ -85,7 +91,19 @@ open-all-but-slice-aggregate-open-all-but-2 :
 open-all-but-slice-aggregate-open-all-but-2 t c = let s = c .before .before .before .before .before .before .before in front-long (16 * (s .args .depth - 1)) (s .args .out .now) (omega arith)
 
 open-all-but-open-all-but-requires : (t : ℕ) → open-all-but-lts.Need-open-all-but-requires (cs t) (open-all-but-at t) open-all-but.Post
-open-all-but-open-all-but-requires t c κs = let s = c .before .before .before .before .before .before .before in let x = c .before .before .before .two-blocks .result in let long : length x ≡ 32 = search needs in (search needs, (length-take-le 16 x (omega arith), (length-take-le (16 * (s .args .depth - 1)) (s .args .out .now) (omega arith), (h-left (s .args .depth) (s .args .h) (s .pre .1 .1 .1 .1) (c .before .before .if2 .taken), omega arith))))
+open-all-but-open-all-but-requires t c κs =
+    let s = c .before .before .before .before .before .before .before in
+    let x = c .before .before .before .two-blocks .result in
+    let long : length x ≡ 32 = search needs in (
+      search needs,
+      (
+        length-take-le 16 x (omega arith),
+        (
+          length-take-le (16 * (s .args .depth - 1)) (s .args .out .now) (omega arith),
+          (h-left (s .args .depth) (s .args .h) (s .pre .1 .1 .1 .1) (c .before .before .if2 .taken), omega arith),
+        ),
+      ),
+    )
 
 open-all-but-sub-copy : (t : ℕ) → open-all-but-lts.Need-sub-copy (cs t) (open-all-but-at t) open-all-but.Post
 open-all-but-sub-copy t c = search needs
@@ -112,13 +130,21 @@ open-all-but-same-length : (t : ℕ) → open-all-but-lts.Need-same-length (cs t
 open-all-but-same-length t c = search needs
 
 open-all-but-returns-2 : (t : ℕ) → open-all-but-lts.Need-returns-2 (cs t) (open-all-but-at t) open-all-but.Post
-open-all-but-returns-2 t c = let s = c .before .before .before .before .before .before .before .before .before .before .before .before .before .before .before .before in open-left-done (s .args .depth) (s .args .seed .now) (s .args .h) (c .before .before .before .before .before .before .before .before .before .before .before .before .two-blocks .result) (s .args .out .now) (c .before .before .before .before .before .before .before .before .open-all-but .last .1 .1 .1 .0) (c .before .before .copy .last .1 .0) (c .before .before .before .before .before .before .before .before .before .before .before .before .before .if1 .left) (s .pre .1 .1 .1 .1) (s .pre .1 .1 .0) (c .before .before .before .before .before .before .before .before .before .before .before .if2 .taken) (c .before .before .before .before .before .before .before .before .before .before .before .before .two-blocks .ensures) (c .before .before .before .before .before .before .before .before .open-all-but .ensures) (c .before .before .copy .ensures) (c .before .before .before .before .before .before .before .before .open-all-but .kept .1 .1 .1 .0)
+open-all-but-returns-2 t c =
+    let s = c .before .before .before .before .before .before .before .before .before .before .before .before .before .before .before .before in
+    let children = c .before .before .before .before .before .before .before .before .before .before .before .before .two-blocks in
+    let first = c .before .before .before .before .before .before .before .before .open-all-but in
+    let second = c .before .before .copy in
+    open-left-done (s .args .depth) (s .args .seed .now) (s .args .h) (children .result) (s .args .out .now) (first .last .1 .1 .1 .0) (second .last .1 .0)
+    (c .before .before .before .before .before .before .before .before .before .before .before .before .before .if1 .left) (s .pre .1 .1 .1 .1) (s .pre .1 .1 .0) (c .before .before .before .before .before .before .before .before .before .before .before .if2 .taken) (children .ensures) (first .ensures) (second .ensures) (first .kept .1 .1 .1 .0)
 
 open-all-but-array-share-prefix-x-2 : (t : ℕ) → open-all-but-lts.Need-array-share-prefix-x-2 (cs t) (open-all-but-at t) open-all-but.Post
 open-all-but-array-share-prefix-x-2 t c = search needs
 
 open-all-but-slice-aggregate-copy : (t : ℕ) → open-all-but-lts.Need-slice-aggregate-copy (cs t) (open-all-but-at t) open-all-but.Post
-open-all-but-slice-aggregate-copy t c = let long : length (c .before .before .two-blocks .result) ≡ 32 = search needs in front-long 16 (c .before .before .two-blocks .result) (omega arith)
+open-all-but-slice-aggregate-copy t c =
+    let x = c .before .before .two-blocks .result in
+    let long : length x ≡ 32 = search needs in front-long 16 x (omega arith)
 
 open-all-but-slice-relend-prefix-copy : (t : ℕ) → open-all-but-lts.Need-slice-relend-prefix-copy (cs t) (open-all-but-at t) open-all-but.Post
 open-all-but-slice-relend-prefix-copy t c = search needs
@@ -127,7 +153,10 @@ open-all-but-slice-aggregate-copy-2 : (t : ℕ) → open-all-but-lts.Need-slice-
 open-all-but-slice-aggregate-copy-2 t c = front-long 16 (c .before .before .before .before .before .before .before .args .out .now) (omega arith)
 
 open-all-but-copy-requires-2 : (t : ℕ) → open-all-but-lts.Need-copy-requires-2 (cs t) (open-all-but-at t) open-all-but.Post
-open-all-but-copy-requires-2 t c κs = let s = c .before .before .before .before .before .before .before in let x = c .before .before .before .two-blocks .result in let long : length x ≡ 32 = search needs in length-take-le 16 x (omega arith) ∙ front-long 16 (s .args .out .now) (omega arith)
+open-all-but-copy-requires-2 t c κs =
+    let s = c .before .before .before .before .before .before .before in
+    let x = c .before .before .before .two-blocks .result in
+    let long : length x ≡ 32 = search needs in length-take-le 16 x (omega arith) ∙ front-long 16 (s .args .out .now) (omega arith)
 
 open-all-but-sub-open-all-but : (t : ℕ) → open-all-but-lts.Need-sub-open-all-but (cs t) (open-all-but-at t) open-all-but.Post
 open-all-but-sub-open-all-but t c = search needs
@@ -148,13 +177,32 @@ open-all-but-part-open-all-but-end-2 : (t : ℕ) → open-all-but-lts.Need-part-
 open-all-but-part-open-all-but-end-2 t c = search needs
 
 open-all-but-open-all-but-requires-2 : (t : ℕ) → open-all-but-lts.Need-open-all-but-requires-2 (cs t) (open-all-but-at t) open-all-but.Post
-open-all-but-open-all-but-requires-2 t c κs = let s = c .before .before .before .before .before .before .before .before .before .before .before .before .before in let x = c .before .before .before .before .before .before .before .before .before .two-blocks .result in let long : length x ≡ 32 = search needs in (search needs, (tail-long x long, (rest-long 16 (s .args .out .now) (c .before .before .before .before .before .copy2 .last .1 .0) (omega arith) (c .before .before .before .before .before .copy2 .kept .1 .0) ∙ (omega arith), (h-right (s .args .depth) (s .args .h) (s .pre .1 .1 .1 .1) (c .before .before .before .before .before .before .before .before .before .before .if1 .left) (s .pre .1 .1 .1 .0), omega arith))))
+open-all-but-open-all-but-requires-2 t c κs =
+    let s = c .before .before .before .before .before .before .before .before .before .before .before .before .before in
+    let x = c .before .before .before .before .before .before .before .before .before .two-blocks .result in
+    let first = c .before .before .before .before .before .copy2 in
+    let long : length x ≡ 32 = search needs in (
+      search needs,
+      (
+        tail-long x long,
+        (
+          rest-long 16 (s .args .out .now) (first .last .1 .0) (omega arith) (first .kept .1 .0) ∙ (omega arith),
+          (h-right (s .args .depth) (s .args .h) (s .pre .1 .1 .1 .1) (c .before .before .before .before .before .before .before .before .before .before .if1 .left) (s .pre .1 .1 .1 .0), omega arith),
+        ),
+      ),
+    )
 
 open-all-but-same-length-2 : (t : ℕ) → open-all-but-lts.Need-same-length-2 (cs t) (open-all-but-at t) open-all-but.Post
 open-all-but-same-length-2 t c = search needs
 
 open-all-but-returns-3 : (t : ℕ) → open-all-but-lts.Need-returns-3 (cs t) (open-all-but-at t) open-all-but.Post
-open-all-but-returns-3 t c = let s = c .before .before .before .before .before .before .before .before .before .before .before .before .before .before .before .before in open-right-done (s .args .depth) (s .args .seed .now) (s .args .h) (c .before .before .before .before .before .before .before .before .before .before .before .before .two-blocks .result) (s .args .out .now) (c .before .before .before .before .before .before .before .before .copy2 .last .1 .0) (c .before .before .open-all-but2 .last .1 .1 .1 .0) (c .before .before .before .before .before .before .before .before .before .before .before .before .before .if1 .left) (s .pre .1 .1 .1 .1) (s .pre .1 .1 .0) (c .before .before .before .before .before .before .before .before .before .before .before .if2 .left) (c .before .before .before .before .before .before .before .before .before .before .before .before .two-blocks .ensures) (c .before .before .before .before .before .before .before .before .copy2 .ensures) (c .before .before .open-all-but2 .ensures) (c .before .before .before .before .before .before .before .before .copy2 .kept .1 .0)
+open-all-but-returns-3 t c =
+    let s = c .before .before .before .before .before .before .before .before .before .before .before .before .before .before .before .before in
+    let children = c .before .before .before .before .before .before .before .before .before .before .before .before .two-blocks in
+    let first = c .before .before .before .before .before .before .before .before .copy2 in
+    let second = c .before .before .open-all-but2 in
+    open-right-done (s .args .depth) (s .args .seed .now) (s .args .h) (children .result) (s .args .out .now) (first .last .1 .0) (second .last .1 .1 .1 .0)
+    (c .before .before .before .before .before .before .before .before .before .before .before .before .before .if1 .left) (s .pre .1 .1 .1 .1) (s .pre .1 .1 .0) (c .before .before .before .before .before .before .before .before .before .before .before .if2 .left) (children .ensures) (first .ensures) (second .ensures) (first .kept .1 .0)
 
 pub +open-all-but-spec : {M : Type 1} → statement M
 +open-all-but-spec = close μ-open-all-but λ t. open-all-but-lts.spec (cs t)

@@ -11,35 +11,27 @@ use Rattle.sha.proofs.finish.Reads as finish-reads
 use Rattle.sha.proofs.update.Reads as update-reads
 use Rattle.streams.proofs.block_of.Reads as block-of-reads
 
--- src/commit.rt:26:9
 begin-requires : tie.Need-begin-requires
 begin-requires c κs = search needs
 
--- src/commit.rt:27:9
 update-requires : tie.Need-update-requires
 update-requires c κs = search needs
 
--- src/commit.rt:28:9
 numbers-requires : tie.Need-numbers-requires
 numbers-requires c κs = search needs
 
--- src/commit.rt:29:13
 block-of-requires : tie.Need-block-of-requires
 block-of-requires c κs = search needs
 
--- src/commit.rt:30:43
 slice-aggregate-update : tie.Need-slice-aggregate-update
 slice-aggregate-update c = search needs
 
--- src/commit.rt:30:17
 update-requires-2 : tie.Need-update-requires-2
 update-requires-2 c κs = search needs
 
--- src/commit.rt:30:5
 finish-requires : tie.Need-finish-requires
 finish-requires c κs = search needs
 
--- src/commit.rt:22:1
 returns : tie.Need-returns
 returns c =
     rw (← c .before .before .before .block-of .ensures)

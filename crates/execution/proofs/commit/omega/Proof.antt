@@ -11,31 +11,24 @@ use Rattle.sha.proofs.finish.Reads as finish-reads
 use Rattle.sha.proofs.update.Reads as update-reads
 use Rattle.streams.proofs.block_of.Reads as block-of-reads
 
--- src/commit.rt:38:9
 begin-requires : tie.Need-begin-requires
 begin-requires c κs = search needs
 
--- src/commit.rt:39:9
 numbers-requires : tie.Need-numbers-requires
 numbers-requires c κs = search needs
 
--- src/commit.rt:40:13
 block-of-requires : tie.Need-block-of-requires
 block-of-requires c κs = search needs
 
--- src/commit.rt:41:43
 slice-aggregate-update : tie.Need-slice-aggregate-update
 slice-aggregate-update c = search needs
 
--- src/commit.rt:41:17
 update-requires : tie.Need-update-requires
 update-requires c κs = search needs
 
--- src/commit.rt:41:5
 finish-requires : tie.Need-finish-requires
 finish-requires c κs = search needs
 
--- src/commit.rt:34:1
 returns : tie.Need-returns
 returns c =
     rw (← c .before .before .before .block-of .ensures)

@@ -16,15 +16,12 @@ use Rattle.execution.proofs.shares.deal_s.Reads as deal-s-reads
 use Rattle.execution.proofs.shares.draw_shares.Reads as draw-shares-reads
 use Rattle.tree.proofs.leaves.Reads as leaves-reads
 
--- src/prepare.rt:26:5
 leaves-requires : tie.Need-leaves-requires
 leaves-requires c κs = search needs
 
--- src/prepare.rt:27:49
 mul-draw-shares : tie.Need-mul-draw-shares
 mul-draw-shares c = search needs
 
--- src/prepare.rt:27:5
 draw-shares-requires : tie.Need-draw-shares-requires
 draw-shares-requires c κs =
     let a = c .before .before .before .before .before .before .before .before .before .before .args in
@@ -36,23 +33,18 @@ draw-shares-requires c κs =
       ),
     )
 
--- src/prepare.rt:28:5
 deal-d-requires : tie.Need-deal-d-requires
 deal-d-requires c κs = search needs
 
--- src/prepare.rt:29:5
 deal-s-requires : tie.Need-deal-s-requires
 deal-s-requires c κs = search needs
 
--- src/prepare.rt:14:1
 same-length : tie.Need-same-length
 same-length c = search needs
 
--- src/prepare.rt:14:1
 same-length-2 : tie.Need-same-length-2
 same-length-2 c = search needs
 
--- src/prepare.rt:14:1
 returns : tie.Need-returns
 returns c =
     let a = c .before .before .before .before .before .before .before .before .before .before .before .before .before .before .before .before .before .before .before .before .before .args in

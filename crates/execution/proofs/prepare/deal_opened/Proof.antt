@@ -14,15 +14,12 @@ use Rattle.execution.proofs.shares.deal_d.Reads as deal-d-reads
 use Rattle.execution.proofs.shares.draw_shares.Reads as draw-shares-reads
 use Rattle.tree.proofs.leaves.Reads as leaves-reads
 
--- src/prepare.rt:43:5
 leaves-requires : tie.Need-leaves-requires
 leaves-requires c κs = search needs
 
--- src/prepare.rt:44:49
 mul-draw-shares : tie.Need-mul-draw-shares
 mul-draw-shares c = search needs
 
--- src/prepare.rt:44:5
 draw-shares-requires : tie.Need-draw-shares-requires
 draw-shares-requires c κs =
     let a = c .before .before .before .before .before .before .before .before .before .args in
@@ -34,19 +31,15 @@ draw-shares-requires c κs =
       ),
     )
 
--- src/prepare.rt:45:5
 deal-d-requires : tie.Need-deal-d-requires
 deal-d-requires c κs = search needs
 
--- src/prepare.rt:33:1
 same-length : tie.Need-same-length
 same-length c = search needs
 
--- src/prepare.rt:33:1
 same-length-2 : tie.Need-same-length-2
 same-length-2 c = search needs
 
--- src/prepare.rt:33:1
 returns : tie.Need-returns
 returns c =
     let p = c .before .before .before .before .before .before .before .before .before .before .before .before .before .before .before .before .pre in

@@ -8,19 +8,15 @@ use Rattle.execution.proofs.prepare.last_count.Tie as tie
 use Rattle.execution.proofs.prepare.last_count.Reads as reads
 use Rattle.execution.proofs.prepare.last_count.Lts as lts
 
--- src/prepare.rt:54:8
 add-if1 : tie.Need-add-if1
 add-if1 c = search needs
 
--- src/prepare.rt:55:9
 returns : tie.Need-returns
 returns c = rw (eq-eqb _ _ (sym (add-one _) ∙ c .if1 .taken))
 
--- src/prepare.rt:57:5
 mul-result : tie.Need-mul-result
 mul-result c = search needs
 
--- src/prepare.rt:49:1
 returns-2 : tie.Need-returns-2
 returns-2 c = rw (ne-eqb _ _ (λ e. c .if1 .left (add-one _ ∙ e)))
 

@@ -21,31 +21,24 @@ room c =
       rw (c .last-count .ensures) (last-count-most (a .m) (a .parties) (a .hidden)),
     )
 
--- src/prepare.rt:80:9
 last-count-requires : tie.Need-last-count-requires
 last-count-requires c κs = search needs
 
--- src/prepare.rt:81:16
 mul-from : tie.Need-mul-from
 mul-from c = search needs
 
--- src/prepare.rt:81:25
 sub-from : tie.Need-sub-from
 sub-from c = search needs
 
--- src/prepare.rt:81:16
 mul-from-2 : tie.Need-mul-from-2
 mul-from-2 c = omega (arith, room c .0, room c .1)
 
--- src/prepare.rt:81:16
 add-from : tie.Need-add-from
 add-from c = omega (arith, room c .0, room c .1)
 
--- src/prepare.rt:82:24
 add-put-numbers : tie.Need-add-put-numbers
 add-put-numbers c = search needs
 
--- src/prepare.rt:82:5
 put-numbers-requires : tie.Need-put-numbers-requires
 put-numbers-requires c κs =
     let e = c .before .last-count .ensures in
@@ -53,11 +46,9 @@ put-numbers-requires c κs =
     let p = c .before .before .before .before .pre in
     (rw e (p .1 .1 .0), (omega (arith, r .0, r .2), (omega arith, omega (arith, r .2), omega (arith, r .0, r .1))))
 
--- src/prepare.rt:73:1
 same-length : tie.Need-same-length
 same-length c = search needs
 
--- src/prepare.rt:73:1
 returns : tie.Need-returns
 returns c = rw (c .before .before .before .before .last-count .ensures) at (c .before .before .put-numbers .ensures)
 

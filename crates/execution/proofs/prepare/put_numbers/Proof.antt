@@ -18,49 +18,38 @@ Inv-loop given first count from work₀ j₀ work j = (j ≤ count) × Put from 
 abbrev μ-loop : tie.MeasureT-loop
 μ-loop given first count from work₀ j₀ work j = count - j
 
--- src/prepare.rt:67:5
 loop-holds : tie.Need-loop-holds Inv-loop μ-loop
 loop-holds c = (search needs, put-none _ _ _)
 
--- src/prepare.rt:68:46
 add-le32 : tie.Need-add-le32 Inv-loop μ-loop
 add-le32 c = search needs
 
--- src/prepare.rt:68:26
 le32-requires : tie.Need-le32-requires Inv-loop μ-loop
 le32-requires c κs = search needs
 
--- src/prepare.rt:68:14
 add-work : tie.Need-add-work Inv-loop μ-loop
 add-work c = search needs
 
--- src/prepare.rt:68:9
 mul-work : tie.Need-mul-work Inv-loop μ-loop
 mul-work c = search needs
 
--- src/prepare.rt:68:9
 slice-write-work : tie.Need-slice-write-work Inv-loop μ-loop
 slice-write-work c = rw (c .before .before .loop .inv .1 .long) (search needs)
 
--- src/prepare.rt:67:9
 add-j : tie.Need-add-j Inv-loop μ-loop
 add-j c = search needs
 
--- src/prepare.rt:67:5
 loop-less : tie.Need-loop-less Inv-loop μ-loop
 loop-less c = search needs
 
--- src/prepare.rt:67:5
 loop-again : tie.Need-loop-again Inv-loop μ-loop
 loop-again c =
     let l = c .before .before .loop in
     (search needs, put-next (l .inv .1) (rw (l .inv .1 .long) (search needs)) (c .le32 .ensures))
 
--- src/prepare.rt:61:1
 same-length : tie.Need-same-length Inv-loop μ-loop
 same-length c = c .before .loop .inv .1 .long
 
--- src/prepare.rt:61:1
 returns : tie.Need-returns Inv-loop μ-loop
 returns c = let e : c .before .loop .j ≡ c .before .before .before .before .args .count = omega arith in rw e at (c .before .loop .inv .1)
 

@@ -1,6 +1,6 @@
 -- `prepare::reopen_kept` meets its contract. Assumes nothing.
 use mathlib.Core.Path.{_≡_, sym, _∙_, ap}
-use Prim.Native.Nat.{_+_, _*_, _-_, _≤_}
+use Prim.Native.Nat.{_+_, _*_}
 use native.Mathlib.Omega.{arith}
 use lib.ListN.{length, take}
 use lib.Seq.{length-take-le}
@@ -17,15 +17,12 @@ use Rattle.execution.proofs.prepare.put_last.Reads as put-last-reads
 use Rattle.execution.proofs.shares.draw_shares.Reads as draw-shares-reads
 use Rattle.tree.proofs.reopen.Reads as reopen-reads
 
--- src/prepare.rt:99:17
 mul-seeds : tie.Need-mul-seeds
 mul-seeds c = search needs
 
--- src/prepare.rt:100:33
 slice-aggregate-reopen : tie.Need-slice-aggregate-reopen
 slice-aggregate-reopen c = let a = c .before .before .before .before .args in sym (length-take-le (16 * a .depth) (a .reply .now) (omega arith))
 
--- src/prepare.rt:100:5
 reopen-requires : tie.Need-reopen-requires
 reopen-requires c κs =
     let a = c .before .before .before .before .before .args in
@@ -34,11 +31,9 @@ reopen-requires c κs =
       (p .1 .1 .1 .1 .1 .0 ∙ ap (λ x. 16 * x) (sym (p .1 .0)), rw (p .1 .0) (p .1 .1 .0)),
     )
 
--- src/prepare.rt:101:48
 mul-draw-shares : tie.Need-mul-draw-shares
 mul-draw-shares c = search needs
 
--- src/prepare.rt:101:5
 draw-shares-requires : tie.Need-draw-shares-requires
 draw-shares-requires c κs =
     let a = c .before .before .before .before .before .before .before .before .before .before .args in
@@ -51,23 +46,18 @@ draw-shares-requires c κs =
       ),
     )
 
--- src/prepare.rt:102:19
 add-numbers : tie.Need-add-numbers
 add-numbers c = search needs
 
--- src/prepare.rt:103:34
 sub-put-last : tie.Need-sub-put-last
 sub-put-last c = search needs
 
--- src/prepare.rt:103:34
 part-put-last-start : tie.Need-part-put-last-start
 part-put-last-start c = search needs
 
--- src/prepare.rt:103:34
 part-put-last-end : tie.Need-part-put-last-end
 part-put-last-end c = search needs
 
--- src/prepare.rt:103:5
 put-last-requires : tie.Need-put-last-requires
 put-last-requires c κs =
     let a = c .before .before .before .before .before .before .before .before .before .before .before .before .before .before .before .args in
@@ -82,11 +72,9 @@ put-last-requires c κs =
       ),
     )
 
--- src/prepare.rt:86:1
 same-length : tie.Need-same-length
 same-length c = search needs
 
--- src/prepare.rt:86:1
 same-length-2 : tie.Need-same-length-2
 same-length-2 c = search needs
 
@@ -104,7 +92,6 @@ made c =
       put = rw (rest-is (16 * a .depth + 32) (a .reply .now)) at (c .before .before .put-last .ensures);
     }
 
--- src/prepare.rt:86:1
 returns : tie.Need-returns
 returns c =
     let p = c .before .before .before .before .before .before .before .before .before .before .before .before .before .before .before .before .before .before .pre in

@@ -29,46 +29,36 @@ turns c =
     let h : a .stride * c .before .loop .counter ≤ 384 * 32 = mul-le-mul x y in
     omega (arith, c .before .loop .inv .1)
 
--- src/shares.rt:80:5
 loop-holds : tie.Need-loop-holds Inv-loop μ-loop
 unfolding sum
 loop-holds c = (search needs, omega arith, refl, omega arith)
 
--- src/shares.rt:81:23
 mul-wide : tie.Need-mul-wide Inv-loop μ-loop
 mul-wide c = omega (arith, turns (c))
 
--- src/shares.rt:81:23
 shared-slice-read-wide : tie.Need-shared-slice-read-wide Inv-loop μ-loop
 shared-slice-read-wide c = rw (c .before .before .loop .inv .1) (c .before .before .before .before .pre .1 _ (c .before .loop-test .taken))
 
--- src/shares.rt:81:18
 wide-requires : tie.Need-wide-requires Inv-loop μ-loop
 wide-requires c κs = search needs
 
--- src/shares.rt:81:9
 add-total : tie.Need-add-total Inv-loop μ-loop
 add-total c = omega (arith, c .wide .ensures .1)
 
--- src/shares.rt:82:9
 add-at : tie.Need-add-at Inv-loop μ-loop
 add-at c = omega (arith, turns (c .before .before))
 
--- src/shares.rt:80:9
 add-counter : tie.Need-add-counter Inv-loop μ-loop
 add-counter c = search needs
 
--- src/shares.rt:80:5
 loop-less : tie.Need-loop-less Inv-loop μ-loop
 loop-less c = search needs
 
--- src/shares.rt:80:5
 loop-again : tie.Need-loop-again Inv-loop μ-loop
 loop-again c =
     let l = c .before .before .before .loop in
     (search needs, omega arith, sum-step _ _ _ _ (l .inv .2) (rw (← l .inv .1) (c .wide .ensures .0)), omega arith)
 
--- src/shares.rt:73:1
 returns : tie.Need-returns Inv-loop μ-loop
 returns c = let e : c .before .loop .counter ≡ c .before .before .before .args .count = omega arith in rw e at (c .before .loop .inv .2)
 

@@ -8,15 +8,12 @@ use Rattle.execution.proofs.shares.count_of.Tie as tie
 use Rattle.execution.proofs.shares.count_of.Reads as reads
 use Rattle.execution.proofs.shares.count_of.Lts as lts
 
--- src/shares.rt:19:8
 add-if1 : tie.Need-add-if1
 add-if1 c = search needs
 
--- src/shares.rt:20:9
 returns : tie.Need-returns
 returns c = rw (eq-eqb _ _ (sym (add-one _) ∙ c .if1 .taken))
 
--- src/shares.rt:15:1
 returns-2 : tie.Need-returns-2
 returns-2 c = rw (ne-eqb _ _ (λ e. c .if1 .left (add-one _ ∙ e)))
 

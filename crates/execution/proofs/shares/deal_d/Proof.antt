@@ -1,10 +1,9 @@
 -- `shares::deal_d` meets its contract. Invariant: the first k numbers are put. Assumes nothing.
-use mathlib.Core.Path.{_≡_, refl, sym, _∙_}
+use mathlib.Core.Path.{_≡_, refl, _∙_}
 use Prim.Native.Nat.{_+_, _*_, _-_, _≤_}
 use native.Mathlib.Omega.{arith}
-use lib.ListN.{length, getD}
-use Rattle.execution.specs.Lists.{Put, lastD, lastS}
-use Rattle.execution.proofs.Laws.{inside, small, put-none, put-next, last-d-same, last-s-same}
+use Rattle.execution.specs.Lists.{Put, lastD}
+use Rattle.execution.proofs.Laws.{inside, small, put-none, put-next, last-d-same}
 use borrow.Author.Needs.{needs}
 use Rattle.execution.proofs.shares.deal_d.Statement.{statement}
 use Rattle.execution.proofs.shares.deal_d.Tie as tie
@@ -25,53 +24,41 @@ room c =
     let a = c .before .args in
     (inside (a .m) (a .parties) (a .parties - 1) (omega arith), small (a .m) (a .parties) (search needs) (search needs))
 
--- src/shares.rt:123:16
 mul-from : tie.Need-mul-from Inv-loop μ-loop
 mul-from c = search needs
 
--- src/shares.rt:123:25
 sub-from : tie.Need-sub-from Inv-loop μ-loop
 sub-from c = search needs
 
--- src/shares.rt:123:16
 mul-from-2 : tie.Need-mul-from-2 Inv-loop μ-loop
 mul-from-2 c = omega (arith, room c .0, room c .1)
 
--- src/shares.rt:123:16
 add-from : tie.Need-add-from Inv-loop μ-loop
 add-from c = omega (arith, room c .0, room c .1)
 
--- src/shares.rt:124:5
 loop-holds : tie.Need-loop-holds Inv-loop μ-loop
 loop-holds c = (search needs, put-none _ _ _)
 
--- src/shares.rt:125:13
 last-d-requires : tie.Need-last-d-requires Inv-loop μ-loop
 last-d-requires c κs =
     let p = c .before .before .before .before .pre in
     (p .0, (c .before .loop-test .taken, rw (c .before .before .loop .inv .1 .long) (p .1)))
 
--- src/shares.rt:126:14
 add-work : tie.Need-add-work Inv-loop μ-loop
 add-work c = omega (arith, room (c .before .before .before .before) .0, room (c .before .before .before .before) .1)
 
--- src/shares.rt:126:9
 mul-work : tie.Need-mul-work Inv-loop μ-loop
 mul-work c = omega (arith, room (c .before .before .before .before) .0, room (c .before .before .before .before) .1)
 
--- src/shares.rt:126:9
 slice-write-work : tie.Need-slice-write-work Inv-loop μ-loop
 slice-write-work c = rw (c .before .before .before .loop .inv .1 .long) (omega (arith, room (c .before .before .before .before) .0, c .before .before .before .before .before .pre))
 
--- src/shares.rt:124:9
 add-k : tie.Need-add-k Inv-loop μ-loop
 add-k c = search needs
 
--- src/shares.rt:124:5
 loop-less : tie.Need-loop-less Inv-loop μ-loop
 loop-less c = search needs
 
--- src/shares.rt:124:5
 loop-again : tie.Need-loop-again Inv-loop μ-loop
 loop-again c =
     let l = c .before .before .before .loop in
@@ -81,11 +68,9 @@ loop-again c =
           (c .last-d .ensures .is ∙ last-d-same (a .q) (a .m) (a .parties) (l .k) _ (a .work .now) (l .work) (omega arith) (search needs) refl (l .inv .1 .below)),
     )
 
--- src/shares.rt:118:1
 same-length : tie.Need-same-length Inv-loop μ-loop
 same-length c = c .before .loop .inv .1 .long
 
--- src/shares.rt:118:1
 returns : tie.Need-returns Inv-loop μ-loop
 returns c = let e : c .before .loop .k ≡ c .before .before .before .args .m = omega arith in rw e at (c .before .loop .inv .1)
 

@@ -10,41 +10,32 @@ use Rattle.execution.proofs.shares.draw_open.Reads as reads
 use Rattle.execution.proofs.shares.draw_open.Lts as lts
 use Rattle.execution.proofs.shares.draw_party.Reads as draw-party-reads
 
--- src/shares.rt:50:9
 returns : tie.Need-returns
 returns c = (λ n e so. drawn-hidden (e ∙ c .if1 .taken) so, refl)
 
--- src/shares.rt:52:16
 mul-from : tie.Need-mul-from
 mul-from c = search needs
 
--- src/shares.rt:53:14
 add-to : tie.Need-add-to
 add-to c = search needs
 
--- src/shares.rt:54:39
 sub-draw-party : tie.Need-sub-draw-party
 sub-draw-party c = search needs
 
--- src/shares.rt:54:39
 part-draw-party-start : tie.Need-part-draw-party-start
 part-draw-party-start c = search needs
 
--- src/shares.rt:54:39
 part-draw-party-end : tie.Need-part-draw-party-end
 part-draw-party-end c = search needs
 
--- src/shares.rt:54:5
 draw-party-requires : tie.Need-draw-party-requires
 draw-party-requires c κs =
     let a = c .before .before .before .before .before .args in
     (search needs, (part-long (a .leaves .now) (16 * a .i) 16 (omega arith), (search needs, (search needs, search needs))))
 
--- src/shares.rt:40:1
 same-length : tie.Need-same-length
 same-length c = search needs
 
--- src/shares.rt:40:1
 returns-2 : tie.Need-returns-2
 returns-2 c =
     let put = c .before .before .draw-party .ensures in

@@ -21,49 +21,38 @@ room c =
     let h : c .count-of .result ≤ a .per = rw (c .count-of .ensures) (count-le (a .m) (a .parties) (a .per) (a .i) (search needs)) in
     (omega (arith, inside (a .m) (a .parties) (a .i) (search needs)), small (a .m) (a .parties) (search needs) (search needs))
 
--- src/shares.rt:33:9
 count-of-requires : tie.Need-count-of-requires
 count-of-requires c κs = search needs
 
--- src/shares.rt:34:16
 mul-from : tie.Need-mul-from
 mul-from c = omega (arith, room c .0, room c .1)
 
--- src/shares.rt:34:16
 mul-from-2 : tie.Need-mul-from-2
 mul-from-2 c = omega (arith, room c .0, room c .1)
 
--- src/shares.rt:35:14
 add-to : tie.Need-add-to
 add-to c = omega (arith, room c .0, room c .1)
 
--- src/shares.rt:36:31
 mul-fill : tie.Need-mul-fill
 mul-fill c = omega (arith, room c .0, room c .1)
 
--- src/shares.rt:36:31
 sub-fill : tie.Need-sub-fill
 sub-fill c = omega (arith, room c .0, room c .1)
 
--- src/shares.rt:36:31
 part-fill-start : tie.Need-part-fill-start
 part-fill-start c = omega (arith, room c .0, room c .1)
 
--- src/shares.rt:36:31
 part-fill-end : tie.Need-part-fill-end
 part-fill-end c = omega (arith, room c .0, room c .1)
 
--- src/shares.rt:36:5
 fill-requires : tie.Need-fill-requires
 fill-requires c κs =
     let a = c .before .before .before .before .args in
     (search needs, (c .before .before .before .before .pre .0 .q-listed, (omega arith, rw (part-long (a .work .now) (3 * a .m * a .i) (c .before .count-of .result) (omega (arith, room (c .before) .0))) (omega (arith, room (c .before) .0, room (c .before) .1)))))
 
--- src/shares.rt:25:1
 same-length : tie.Need-same-length
 same-length c = search needs
 
--- src/shares.rt:25:1
 returns : tie.Need-returns
 returns c =
     let a = c .before .before .before .before .before .before .before .args in

@@ -18,35 +18,28 @@ Inv-loop q m parties hidden per leaves work₀ i₀ work i = (i ≤ parties) × 
 abbrev μ-loop : tie.MeasureT-loop
 μ-loop q m parties hidden per leaves work₀ i₀ work i = parties - i
 
--- src/shares.rt:66:5
 loop-holds : tie.Need-loop-holds Inv-loop μ-loop
 loop-holds c = (search needs, drawn-none _ _, refl)
 
--- src/shares.rt:67:9
 draw-open-requires : tie.Need-draw-open-requires Inv-loop μ-loop
 draw-open-requires c κs =
     let p = c .before .before .before .before .before .pre in
     (p .0, (p .1 .0, (p .1 .1 .0, (c .before .loop-test .taken, rw (c .before .before .loop .inv .2) (p .1 .1 .1)))))
 
--- src/shares.rt:66:9
 add-i : tie.Need-add-i Inv-loop μ-loop
 add-i c = search needs
 
--- src/shares.rt:66:5
 loop-less : tie.Need-loop-less Inv-loop μ-loop
 loop-less c = search needs
 
--- src/shares.rt:66:5
 loop-again : tie.Need-loop-again Inv-loop μ-loop
 loop-again c =
     let l = c .before .before .before .before .before .loop in
     (search needs, c .before .before .draw-open .ensures .0 (l .i) refl (l .inv .1), c .before .before .draw-open .ensures .1 ∙ l .inv .2)
 
--- src/shares.rt:58:1
 same-length : tie.Need-same-length Inv-loop μ-loop
 same-length c = search needs
 
--- src/shares.rt:58:1
 returns : tie.Need-returns Inv-loop μ-loop
 returns c = let e : c .before .loop .i ≡ c .before .before .before .before .args .parties = omega arith in (rw e at (c .before .loop .inv .1), c .before .loop .inv .2)
 

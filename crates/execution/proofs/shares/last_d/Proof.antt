@@ -15,51 +15,40 @@ use Rattle.numbers.proofs.mul_mod.Reads as mul-mod-reads
 use Rattle.numbers.proofs.reduced.Reads as reduced-reads
 use Rattle.numbers.proofs.sub_mod.Reads as sub-mod-reads
 
--- src/shares.rt:100:46
 mul-column : tie.Need-mul-column
 mul-column c = search needs
 
--- src/shares.rt:100:30
 column-requires : tie.Need-column-requires
 column-requires c κs =
     let a = c .before .args in
     ((search needs, omega arith, omega arith), column-in (a .m) (a .parties) (a .parties) (a .k) _ (omega arith) (omega arith) (c .before .pre .1 .1))
 
--- src/shares.rt:100:9
 reduced-requires : tie.Need-reduced-requires
 reduced-requires c κs = search needs
 
--- src/shares.rt:101:43
 add-column : tie.Need-add-column
 add-column c = search needs
 
--- src/shares.rt:101:50
 mul-column-2 : tie.Need-mul-column-2
 mul-column-2 c = search needs
 
--- src/shares.rt:101:57
 sub-column : tie.Need-sub-column
 sub-column c = search needs
 
--- src/shares.rt:101:30
 column-requires-2 : tie.Need-column-requires-2
 column-requires-2 c κs =
     let a = c .before .before .before .args in
-    ((omega arith, omega arith, omega arith), column-in (a .m) (a .parties) (a .parties - 1) (a .m + a .k) _ (omega arith) (omega arith) (c .before .before .before .pre .1 .1))
+    ((omega arith, omega arith, omega arith), column-in (a .m) (a .parties) _ (a .m + a .k) _ (omega arith) (omega arith) (c .before .before .before .pre .1 .1))
 
--- src/shares.rt:101:9
 reduced-requires-2 : tie.Need-reduced-requires-2
 reduced-requires-2 c κs = search needs
 
--- src/shares.rt:102:9
 mul-mod-requires : tie.Need-mul-mod-requires
 mul-mod-requires c κs = search needs
 
--- src/shares.rt:103:5
 sub-mod-requires : tie.Need-sub-mod-requires
 sub-mod-requires c κs = search needs
 
--- src/shares.rt:94:1
 returns : tie.Need-returns
 unfolding lastD
 returns c =

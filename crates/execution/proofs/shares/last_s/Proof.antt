@@ -14,39 +14,31 @@ use Rattle.execution.proofs.shares.column.Reads as column-reads
 use Rattle.numbers.proofs.reduced.Reads as reduced-reads
 use Rattle.numbers.proofs.sub_mod.Reads as sub-mod-reads
 
--- src/shares.rt:113:43
 mul-column : tie.Need-mul-column
 mul-column c = search needs
 
--- src/shares.rt:113:43
 add-column : tie.Need-add-column
 add-column c = search needs
 
--- src/shares.rt:113:54
 mul-column-2 : tie.Need-mul-column-2
 mul-column-2 c = search needs
 
--- src/shares.rt:113:61
 sub-column : tie.Need-sub-column
 sub-column c = search needs
 
--- src/shares.rt:113:30
 column-requires : tie.Need-column-requires
 column-requires c κs =
     let a = c .before .args in
     ((omega arith, omega arith, omega arith), column-in (a .m) (a .parties) (a .parties - 1) (2 * a .m + a .k) _ (omega arith) (omega arith) (c .before .pre .1 .1))
 
--- src/shares.rt:113:9
 reduced-requires : tie.Need-reduced-requires
 reduced-requires c κs = search needs
 
--- src/shares.rt:114:5
 sub-mod-requires : tie.Need-sub-mod-requires
 sub-mod-requires c κs =
     let l = c .before .before .before .pre .0 .q-listed in
     (l, (omega (arith, q-least l), c .reduced .ensures .below))
 
--- src/shares.rt:107:1
 returns : tie.Need-returns
 unfolding lastS
 returns c =
