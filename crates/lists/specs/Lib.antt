@@ -6,5 +6,4 @@ pub mod Check
 pub mod CatLaws
 pub mod TestLaws
 pub mod Inj
-pub mod StreamsExtra
 pub mod ReadingExtra

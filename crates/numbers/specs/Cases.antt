@@ -1,4 +1,4 @@
--- Document 01, cases d, e and f, and two of its mistakes as numbers. Assumes nothing.
+-- The runs of document 01's cases d, e and f, and two of its mistakes as numbers. Assumes nothing.
 use Prim.Native.Nat.{ℕ, zero, suc, _*_, _%_}
 use mathlib.Core.Path.{_≡_, refl}
 use native.Mathlib.Omega.{arith}
@@ -33,22 +33,6 @@ outputs r i = out 257 r (alphaOf 257 r) i
 
 abbrev pub total : Run → ℕ
 total r = sum 2 (outputs r) % 257
-
-pub case-d :
-    (alphaOf 257 (pairRun 100 158 7 10 30 2) 0 ≡ 241) × (outputs (pairRun 100 158 7 10 30 2) 0 ≡ 17)
-    × (outputs (pairRun 100 158 7 10 30 2) 1 ≡ 240) × (total (pairRun 100 158 7 10 30 2) ≡ 0)
-unfolding out alphaOf sum sub inverseOf
-case-d = (refl, refl, refl, refl)
-
-pub case-e :
-    (outputs (pairRun 100 159 7 10 30 2) 0 ≡ 124) × (outputs (pairRun 100 159 7 10 30 2) 1 ≡ 135) × (total (pairRun 100 159 7 10 30 2) ≡ 2)
-unfolding out alphaOf sum sub inverseOf
-case-e = (refl, refl, refl)
-
-pub case-f :
-    (outputs (pairRun 100 158 7 10 30 3) 0 ≡ 17) × (outputs (pairRun 100 158 7 10 30 3) 1 ≡ 241) × (total (pairRun 100 158 7 10 30 3) ≡ 1)
-unfolding out alphaOf sum sub inverseOf
-case-f = (refl, refl, refl)
 
 -- The mistake α(k, i) for α(k): case d would sum to 151.
 pub mistake-α : sum 2 (λ i. out 257 (pairRun 100 158 7 10 30 2) (λ k. sub 257 (two 100 158 i) (two 7 10 i)) i) % 257 ≡ 151

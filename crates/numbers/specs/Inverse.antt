@@ -133,16 +133,3 @@ inverse-mul {q} {N} hq hN t =
   where
     one : Cong q (N * inverseOf q N) 1
     one = record { same = inverse-law hq hN ∙ sym (mod-eq-of-lt (omega (arith, q-least hq))) }
-
--- Document 01, cases a, b and c.
-pub case-a : inverseOf 257 4 ≡ 193
-unfolding inverseOf
-case-a = refl
-
-pub case-b : inverseOf 257 32 ≡ 249
-unfolding inverseOf
-case-b = refl
-
-pub case-c : inverseOf 2147483647 2 ≡ 1073741824
-unfolding inverseOf
-case-c = refl

@@ -230,12 +230,19 @@ fn add_all(v: [u32; 8], h: [u32; 8]) -> [u32; 8]
     [a, b, c, d, e, f, g, i]
 }
 
-// The hash value after the block `b`, from `h`, the one before.
-pub fn compress_block(h: [u32; 8], b: &[u8]) -> [u32; 8]
+// The 64 constants, for a caller that hashes several blocks.
+pub fn table() -> [u32; 64]
+    ensures { λ r. ⌜ r ≡ K ⌝ }
+{
+    K
+}
+
+// The hash value after one block more, with the constants lent.
+pub fn compress_block(k: &[u32; 64], h: [u32; 8], b: &[u8]) -> [u32; 8]
+    requires { ⌜ now k ≡ K ⌝ }
     requires { ⌜ length (now b) ≡ 64 ⌝ }
     ensures { λ r. ⌜ r ≡ compress h (now (b .entry)) ⌝ }
 {
-    let k = K;
-    let v = run(&k, b, h);
+    let v = run(k, b, h);
     add_all(v, h)
 }

@@ -4,8 +4,8 @@ use Prim.Native.Nat.{ℕ, _+_, _*_, _/_, _%_, _<_}
 use mathlib.Core.Path.{_≡_, refl}
 use mathlib.Core.List.{List}
 use native.Mathlib.Nat.{mod-lt}
-use lib.ListN.{getD, length, replicate}
-use Rattle.lists.specs.Tab.{tab, tab-length}
+use lib.ListN.{getD, length}
+use Rattle.lists.specs.Tab.{tab-length}
 use Rattle.aes.specs.Fips197.{addKey, cipher, aes128}
 use Rattle.aes_wide.specs.Wide.{counter}
 
@@ -40,18 +40,6 @@ number-lt h seed c j = mod-lt _ h
 pub draw-lt : {q : ℕ} → 0 < q → (seed : List ℕ) (c n j : ℕ) → draw q seed c n j < q
 unfolding draw
 draw-lt h seed c n j = number-lt h seed c j
-
--- A list of numbers is a list of draws.
-pub draws : (q : ℕ) (seed : List ℕ) (c n : ℕ) → tab n (number q seed c) ≡ tab n (draw q seed c n)
-unfolding draw
-draws q seed c n = refl
-
--- Document 01, case g: eight bytes ff give 0, 0 and 3 for the three q in order.
-pub case-g :
-    (word64 (replicate 8 255) 0 % 257 ≡ 0) × (word64 (replicate 8 255) 0 % 65537 ≡ 0)
-    × (word64 (replicate 8 255) 0 % 2147483647 ≡ 3)
-unfolding word64
-case-g = (refl, refl, refl)
 
 -- By document 01's rule a draw's numbers are those of the seed.
 pub draw-is : (q : ℕ) (seed : List ℕ) (c n j : ℕ) → draw q seed c n j ≡ number q seed c j

@@ -8,9 +8,9 @@ use native.Mathlib.Omega.{arith}
 use lib.ListN.{length, take, drop, replicate, length-append, length-drop, drop-of-length-le}
 use lib.Seq.{length-take-le, take-all, take-at, drop-at}
 use Rattle.lists.specs.Index.{cat}
-use Rattle.streams.specs.Streams.{block, block-length}
+use Rattle.streams.specs.Streams.{block}
 use Rattle.tree.specs.Tree.{left, right, leaf, opening, reopened}
-use Rattle.tree.specs.TreeLaws.{leaves-zero, leaves-node, reopened-zero, reopened-left, reopened-right, opening-left, opening-right}
+use Rattle.tree.specs.TreeLaws.{left-length, right-length, leaves-zero, leaves-node, reopened-zero, reopened-left, reopened-right, opening-left, opening-right}
 
 -- The first k places of xs are lent and come back as y; then the others are lent, and come back as z.
 abbrev pub after-front : ℕ → List ℕ → List ℕ → List ℕ
@@ -61,13 +61,13 @@ second-long d xs y inner long kept = rest-long (length xs / 2) xs y (omega arith
 
 -- The children in two blocks.
 pub first-child : (seed x : List ℕ) → x ≡ block seed 0 ++ block seed 1 → take 16 x ≡ left seed
-first-child seed x e = ap (λ l. take 16 l) e ∙ take-at (left seed) (right seed) 16 (block-length seed 0)
+first-child seed x e = ap (λ l. take 16 l) e ∙ take-at (left seed) (right seed) 16 (left-length seed)
 
 pub second-child : (seed x : List ℕ) → x ≡ block seed 0 ++ block seed 1 → take 16 (drop 16 x) ≡ right seed
 second-child seed x e =
     ap (λ l. take 16 (drop 16 l)) e
-    ∙ ap (λ l. take 16 l) (drop-at (left seed) (right seed) 16 (block-length seed 0))
-    ∙ take-all 16 (right seed) (omega (arith, block-length seed 1))
+    ∙ ap (λ l. take 16 l) (drop-at (left seed) (right seed) 16 (left-length seed))
+    ∙ take-all 16 (right seed) (omega (arith, right-length seed))
 
 pub leaves-root : (d : ℕ) (seed : List ℕ) → d ≡ 0 → cat (2 ^ d) (leaf d seed) ≡ seed
 leaves-root d seed e = ap (λ n. cat (2 ^ n) (leaf n seed)) e ∙ leaves-zero seed

@@ -19,12 +19,19 @@ pick-length : (n : ℕ) (b : Bool) (x y : List ℕ) → length x ≡ n → lengt
 pick-length n true x y p q = p
 pick-length n false x y p q = q
 
+-- A child has 16 bytes.
+pub left-length : (seed : List ℕ) → length (left seed) ≡ 16
+left-length seed = block-length seed _
+
+pub right-length : (seed : List ℕ) → length (right seed) ≡ 16
+right-length seed = block-length seed _
+
 -- A leaf has 16 bytes if its root has.
 pub leaf-length : (d : ℕ) (seed : List ℕ) (i : ℕ) → length seed ≡ 16 → length (leaf d seed i) ≡ 16
 unfolding leaf
 leaf-length zero seed i long = long
 leaf-length (suc d) seed i long =
-    pick-length 16 (ltb i (2 ^ d)) _ _ (leaf-length d (left seed) i (block-length seed 0)) (leaf-length d (right seed) (i - 2 ^ d) (block-length seed 1))
+    pick-length 16 (ltb i (2 ^ d)) _ _ (leaf-length d (left seed) i (left-length seed)) (leaf-length d (right seed) (i - 2 ^ d) (right-length seed))
 
 -- An opening has a seed for each level.
 pub opening-length : (d : ℕ) (seed : List ℕ) (h : ℕ) → length (opening d seed h) ≡ 16 * d
@@ -32,9 +39,9 @@ unfolding opening
 opening-length zero seed h = refl
 opening-length (suc d) seed h =
     pick-length (16 * suc d) (ltb h (2 ^ d)) _ _
-    (length-append (opening d (left seed) h) (right seed) ∙ (omega (arith, opening-length d (left seed) h, block-length seed 1)))
+    (length-append (opening d (left seed) h) (right seed) ∙ (omega (arith, opening-length d (left seed) h, right-length seed)))
     (length-append (left seed) (opening d (right seed) (h - 2 ^ d))
-    ∙ (omega (arith, opening-length d (right seed) (h - 2 ^ d), block-length seed 0)))
+    ∙ (omega (arith, opening-length d (right seed) (h - 2 ^ d), left-length seed)))
 
 -- A leaf from an opening has 16 bytes.
 pub reopened-length : (d h : ℕ) (x : List ℕ) (i : ℕ) → length x ≡ 16 * d → length (reopened d h x i) ≡ 16
@@ -72,9 +79,9 @@ reopens (suc d) seed h i below inside other = go (ltb h (2 ^ d)) (ltb i (2 ^ d))
     go true false p q lft rgt =
         ap (λ x. leaf d x (i - 2 ^ d)) (drop-at (opening d (left seed) h) (right seed) (16 * d) (opening-length d (left seed) h))
     go false true p q lft rgt =
-        ap (λ x. leaf d x i) (take-at (left seed) (opening d (right seed) (h - 2 ^ d)) 16 (block-length seed 0))
+        ap (λ x. leaf d x i) (take-at (left seed) (opening d (right seed) (h - 2 ^ d)) 16 (left-length seed))
     go false false p q lft rgt =
-        ap (λ x. reopened d (h - 2 ^ d) x (i - 2 ^ d)) (drop-at (left seed) (opening d (right seed) (h - 2 ^ d)) 16 (block-length seed 0))
+        ap (λ x. reopened d (h - 2 ^ d) x (i - 2 ^ d)) (drop-at (left seed) (opening d (right seed) (h - 2 ^ d)) 16 (left-length seed))
         ∙ rgt (ltb-false h (2 ^ d) p) (ltb-false i (2 ^ d) q)
 
 -- A list of 2 ^ (d + 1) items in two halves.
@@ -142,11 +149,3 @@ opening-left d seed h below = rw (lt-ltb h (2 ^ d) below)
 pub opening-right : (d : ℕ) (seed : List ℕ) (h : ℕ) → 2 ^ d ≤ h → opening (suc d) seed h ≡ left seed ++ opening d (right seed) (h - 2 ^ d)
 unfolding opening
 opening-right d seed h above = rw (le-ltb h (2 ^ d) above)
-
--- Document 01, case h: with 8 leaves and the third hidden, the seeds of leaves 1 to 2, 4, 5 to 8, in that order.
-pub case-h : (seed : List ℕ) →
-    (opening 3 seed 2 ≡ left (left seed) ++ leaf 3 seed 3 ++ right seed)
-    × (cat 2 (leaf 3 seed) ≡ cat 2 (leaf 1 (left (left seed))))
-    × (cat 4 (λ i. leaf 3 seed (4 + i)) ≡ cat 4 (leaf 2 (right seed)))
-unfolding opening leaf cat
-case-h seed = (refl, refl, refl)

@@ -11,12 +11,15 @@ use Rattle.sha.proofs.blocks.Statement.{statement}
 use Rattle.sha.proofs.blocks.Tie as tie
 
 abbrev Inv-loop : tie.InvT-loop
-Inv-loop d v₀ i₀ i-end v i =
+Inv-loop d k v₀ i₀ i-end v i =
     (i ≤ i-end) ×
     ((m : List ℕ) → length m % 64 ≡ 0 → v₀ ≡ absorb (length m / 64) m → v ≡ absorb (length m / 64 + i) (m ++ d))
 
 abbrev μ-loop : tie.MeasureT-loop
-μ-loop d v₀ i₀ i-end v i = i-end - i
+μ-loop d k v₀ i₀ i-end v i = i-end - i
+
+table-requires : tie.Need-table-requires Inv-loop μ-loop
+table-requires c κs = search needs
 
 loop-holds : tie.Need-loop-holds Inv-loop μ-loop
 loop-holds c = (search needs, λ m h e. blocks-none m _ _ h e)
@@ -47,11 +50,11 @@ loop-less c = search needs
 
 loop-again : tie.Need-loop-again Inv-loop μ-loop
 loop-again c =
-    (search needs, λ m h e. blocks-more m _ _ _ _ h (c .before .before .before .loop .inv .1 m h e) (c .compress-block .ensures))
+    (search needs, λ m h e. blocks-more m _ _ _ _ h (c .before .before .before .before .loop .inv .1 m h e) (c .compress-block .ensures))
 
 returns : tie.Need-returns Inv-loop μ-loop
 returns c m h e =
-    blocks-all m _ _ _ h (c .before .before .before .pre) (omega arith) (c .before .loop .inv .1 m h e)
+    blocks-all m _ _ _ h (c .before .before .before .before .pre) (omega arith) (c .before .loop .inv .1 m h e)
 
 pub blocks-spec : {M : Type 1} → statement M
 blocks-spec =
@@ -59,6 +62,7 @@ blocks-spec =
     (tie.spec
     Inv-loop
     μ-loop
+    table-requires
     loop-holds
     mul-a
     add-e

@@ -1,13 +1,12 @@
--- `sha_core::compress_block` is `compress`; the code's table is the standard's K. Assumes nothing.
-use mathlib.Core.Path.{refl}
-use Rattle.sha_core.specs.Fips180.{K, compress}
+-- `sha_core::compress_block` is `compress`. Assumes nothing.
+
+use Rattle.sha_core.specs.Fips180.{compress}
 use borrow.Author.Needs.{needs}
 use Rattle.sha_core.proofs.compress_block.Statement.{statement}
 use Rattle.sha_core.proofs.compress_block.Tie as tie
 
 run-requires : tie.Need-run-requires
-unfolding K
-run-requires c κs = (refl, search needs)
+run-requires c κs = search needs
 
 add-all-requires : tie.Need-add-all-requires
 add-all-requires c κs = search needs
