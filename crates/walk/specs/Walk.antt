@@ -1,0 +1,108 @@
+-- The judge's walk over the executions. D is the depth of the seed tree; r of the executions before e are opened, and the reply of e
+-- begins at byte `at` of part 7.
+-- Assumes nothing.
+use Prim.Native.Nat.{ℕ, suc, _+_, _*_, _-_, _^_, _<_, _≤_}
+use mathlib.Core.Path.{_≡_}
+use mathlib.Core.Bool.{Bool, false, not}
+use mathlib.Core.List.{List, [], _∷_}
+use lib.ListN.{length, getD}
+use Rattle.lists.specs.Index.{pick, cat, same, part}
+use Rattle.lists.specs.Check.{Check, _⇒_, accepted, first}
+use Rattle.lists.specs.TestLaws.{Clean}
+use Rattle.numbers.specs.Inverse.{Member, Ns}
+use Rattle.numbers.specs.Sum.{sum}
+use Rattle.sha_core.specs.Fips180.{sha256}
+use Rattle.sha.specs.State.{Fed}
+use Rattle.sha.specs.declared.Sha.{Sha}
+use Rattle.protocol.specs.Key.{Key, depth}
+use Rattle.protocol.specs.Shares.{hin, Πin, Ψin}
+use Rattle.protocol.specs.Prover.{opened, rank, hΓin, hπin, hψin}
+use Rattle.protocol.specs.Transcript.{Parts}
+use Rattle.protocol.specs.Judge.{replySize, κ, view, formChecks, executionChecks}
+use Rattle.refusals.specs.Number.{numberOf}
+use Rattle.execution.specs.Shown.{Limits, Sized}
+
+-- the seven parts
+abbrev pub partsFrom : List ℕ → List ℕ → List ℕ → List ℕ → List ℕ → List ℕ → List ℕ → Parts
+partsFrom p1 p2 p3 p4 p5 p6 p7 = record { p1 = p1; p2 = p2; p3 = p3; p4 = p4; p5 = p5; p6 = p6; p7 = p7 }
+
+-- the sizes of a key that was read
+pub record Within (q n m N M τ D : ℕ) : Type 0 where
+  pub limits : Limits q m N
+  pub N-listed : Member N Ns
+  pub n-most : n ≤ 32
+  pub M-most : M ≤ 32
+  pub τ-below : τ < M
+  pub deep : D ≤ 5
+  pub full : 2 ^ D ≡ N
+
+-- a key and parts of these numbers, whose form is good
+pub record Standing (q n m N M τ D : ℕ) (entries p2 p3 p4 p6 p7 : List ℕ) (K : Key) (P : Parts) : Type 0 where
+  pub sized : Sized q m N K
+  pub rows : K .n ≡ n
+  pub executions : K .M ≡ M
+  pub openings : K .τ ≡ τ
+  pub deep : depth K ≡ D
+  pub entry : (j : ℕ) → j < n * (m + 1) → K .entry j ≡ getD entries j 0
+  pub second : P .p2 ≡ p2
+  pub third : P .p3 ≡ p3
+  pub fourth : P .p4 ≡ p4
+  pub sixth : P .p6 ≡ p6
+  pub seventh : P .p7 ≡ p7
+  pub form : Clean (formChecks K P)
+
+-- there are such a key and such parts
+pub record Stood (q n m N M τ D : ℕ) (entries p2 p3 p4 p6 p7 : List ℕ) : Type 0 where
+  pub key : Key
+  pub parts : Parts
+  pub so : Standing q n m N M τ D entries p2 p3 p4 p6 p7 key parts
+
+-- the walk has come to execution e
+pub record Reached (e r at : ℕ) (K : Key) (P : Parts) : Type 0 where
+  pub rank-is : rank (P .p2) e ≡ r
+  pub at-is : 16 + sum e (replySize K P) ≡ at
+
+-- of each execution: its tests, h(e), Π and Ψ; the last two and the tests are those of the kept ones
+abbrev pub checksAt : Key → Parts → ℕ → List Check
+checksAt K P e = pick (opened (P .p2) e) [] (executionChecks K P e)
+
+abbrev pub hashAt : Key → Parts → ℕ → List ℕ
+hashAt K P e = sha256 (hin K (view K P e))
+
+abbrev pub ΠAt : Key → Parts → ℕ → List ℕ
+ΠAt K P e = sha256 (Πin K (view K P e) (κ K P))
+
+abbrev pub ΨAt : Key → Parts → ℕ → List ℕ
+ΨAt K P e = sha256 (Ψin K (view K P e) (κ K P) (P .p4))
+
+-- what the judge computes of execution e
+pub record Stepped (K : Key) (P : Parts) (e code : ℕ) (h pi psi : List ℕ) (r at : ℕ) : Type 0 where
+  pub code-is : code ≡ numberOf (first (checksAt K P e))
+  pub clean : code ≡ 0 → first (checksAt K P e) ≡ accepted
+  pub h-is : h ≡ hashAt K P e
+  pub Π-is : opened (P .p2) e ≡ false → pi ≡ ΠAt K P e
+  pub Ψ-is : opened (P .p2) e ≡ false → psi ≡ ΨAt K P e
+  pub next : Reached (e + 1) r at K P
+
+-- what it has once the executions before e are done: the three running hashes from their starts, and no refusal
+pub record Going (K : Key) (P : Parts) (e r at : ℕ) (g₀ a₀ b₀ g a b : Sha) : Type 0 where
+  pub reached : Reached e r at K P
+  pub Γs : Fed g₀ (cat e (hashAt K P)) g
+  pub Πs : Fed a₀ (cat e (λ j. pick (opened (P .p2) j) [] (ΠAt K P j))) a
+  pub Ψs : Fed b₀ (cat e (λ j. pick (opened (P .p2) j) [] (ΨAt K P j))) b
+  pub clean : first (cat e (checksAt K P)) ≡ accepted
+
+-- after the last execution: the first refusal, or the three hashes
+pub record Walked (K : Key) (P : Parts) (code : ℕ) (gamma pi psi : List ℕ) : Type 0 where
+  pub code-is : code ≡ numberOf (first (cat (K .M) (checksAt K P)))
+  pub clean : code ≡ 0 → first (cat (K .M) (checksAt K P)) ≡ accepted
+  pub Γ-is : code ≡ 0 → gamma ≡ sha256 (hΓin K (view K P))
+  pub Π-is : code ≡ 0 → pi ≡ sha256 (hπin K (view K P) (P .p2) (κ K P))
+  pub Ψ-is : code ≡ 0 → psi ≡ sha256 (hψin K (view K P) (P .p2) (κ K P) (P .p4))
+
+-- Ω and the sum of a kept execution, and the last three tests, on what was computed
+abbrev pub keptTests : (omega zero : Bool) → List Check
+keptTests omega zero = not omega ⇒ 16 ∷ not zero ⇒ 15 ∷ []
+
+abbrev pub hashTests : (p1 gamma given pi p5 psi : List ℕ) → List Check
+hashTests p1 gamma given pi p5 psi = not (same p1 gamma) ⇒ 17 ∷ not (same given pi) ⇒ 18 ∷ not (same p5 psi) ⇒ 19 ∷ []
