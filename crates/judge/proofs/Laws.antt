@@ -1,0 +1,95 @@
+-- From the form, the walk and the three hashes to the verdict on the parts.
+-- Assumes nothing.
+use Prim.Native.Nat.{ℕ, zero, suc, _+_, _*_, _-_, _<_, _≤_}
+use mathlib.Core.Path.{_≡_, refl, sym, _∙_, ap, subst}
+use mathlib.Core.List.{List, [], _∷_, _++_}
+use native.Mathlib.Omega.{arith}
+use lib.ListN.{length, getD, take, drop}
+use Rattle.lists.specs.Index.{cat, part}
+use Rattle.lists.specs.Check.{Check, Verdict, accepted, refused, first}
+use Rattle.lists.specs.TestLaws.{clean, first-stops, first-more}
+use Rattle.protocol.specs.Key.{Key, keptCount}
+use Rattle.protocol.specs.Transcript.{Parts}
+use Rattle.protocol.specs.Judge.{hπAt, formChecks, hashChecks, partsChecks}
+use Rattle.refusals.specs.Number.{numberOf, none-applies}
+use Rattle.key.specs.declared.Numbers.{Numbers}
+use Rattle.key.specs.Numbers.{Limits, Depth, keyWith}
+use Rattle.walk.specs.Walk.{partsFrom, Within, Standing, Stood, Walked, checksAt, hashTests}
+use Rattle.walk.proofs.Going.{refused-of}
+
+module _ (K : Key) (P : Parts) where
+  pub form-clean : numberOf (first (formChecks K P)) ≡ 0 → first (formChecks K P) ≡ accepted
+  unfolding formChecks
+  form-clean z = none-applies (formChecks K P) (omega arith, (omega arith, (omega arith, (omega arith, tt)))) z
+
+  pub form-refused : {f : ℕ} → f ≡ numberOf (first (formChecks K P)) → (f ≡ 0 → ⊥) → f ≡ numberOf (first (partsChecks K P))
+  unfolding partsChecks
+  form-refused {f} e ne =
+      sym
+      (ap numberOf
+      (first-stops (formChecks K P ++ cat (K .M) (checksAt K P)) (hashChecks K P)
+      (first-stops (formChecks K P) (cat (K .M) (checksAt K P)) (refused-of (first (formChecks K P)) e ne))))
+
+  module _ (good : first (formChecks K P) ≡ accepted) {code : ℕ} {gamma pi psi : List ℕ} (w : Walked K P code gamma pi psi) where
+    pub walk-refused : (code ≡ 0 → ⊥) → code ≡ numberOf (first (partsChecks K P))
+    unfolding partsChecks
+    walk-refused ne =
+        sym
+        (ap numberOf
+        (first-stops (formChecks K P ++ cat (K .M) (checksAt K P)) (hashChecks K P)
+        (first-more (formChecks K P) (cat (K .M) (checksAt K P)) good ∙ refused-of (first (cat (K .M) (checksAt K P))) (w .code-is) ne)))
+
+    given-is : (a : ℕ) → a ≡ 16 * K .τ + 32 * keptCount K → take (a + 32 - a) (drop a (P .p3)) ≡ hπAt K P
+    unfolding hπAt
+    given-is a e =
+        let x : a + 32 - a ≡ 32 = omega arith in
+        ap (λ (y : ℕ). take y (drop a (P .p3))) x ∙ ap (λ (y : ℕ). part (P .p3) y 32) e
+
+    pub hash-verdict : {r : ℕ} (a : ℕ) → a ≡ 16 * K .τ + 32 * keptCount K → code ≡ 0
+        → r ≡ numberOf (first (hashTests (P .p1) gamma (take (a + 32 - a) (drop a (P .p3))) pi (P .p5) psi)) → r ≡ numberOf (first (partsChecks K P))
+    unfolding partsChecks hashChecks
+    hash-verdict {r} a e z is =
+        let tests : hashTests (P .p1) gamma (take (a + 32 - a) (drop a (P .p3))) pi (P .p5) psi ≡ hashChecks K P =
+        λ i. hashTests (P .p1) (w .Γ-is z i) (given-is a e i) (w .Π-is z i) (P .p5) (w .Ψ-is z i) in
+        is
+        ∙ (ap (λ (l : List Check). numberOf (first l)) tests
+        ∙ sym
+          (ap numberOf
+          (first-more (formChecks K P ++ cat (K .M) (checksAt K P)) (hashChecks K P)
+          (first-more (formChecks K P) (cat (K .M) (checksAt K P)) good ∙ w .clean z))))
+
+-- the sizes of a key that was read, and that a key and parts of good form stand
+pub within-of : (k : Numbers) (D : ℕ) → Limits k → Depth (k .parties) D → Within (k .q) (k .n) (k .m) (k .parties) (k .executions) (k .opened) D
+within-of k D l d =
+    record {
+      limits = record { q-listed = l .q-listed; m-least = l .m-least; m-most = l .m-most; N-least = l .N-least; N-most = l .N-most };
+      N-listed = l .N-listed;
+      n-most = l .n-most;
+      M-most = l .M-most;
+      τ-below = l .τ-below-M;
+      deep = d .most;
+      full = d .power;
+    }
+
+pub stands-of : (k : Numbers) (D : ℕ) (entries p1 p2 p3 p4 p5 p6 p7 : List ℕ) → Depth (k .parties) D
+    → first (formChecks (keyWith k entries) (partsFrom p1 p2 p3 p4 p5 p6 p7)) ≡ accepted
+    → Standing (k .q) (k .n) (k .m) (k .parties) (k .executions) (k .opened) D entries p2 p3 p4 p6 p7 (keyWith k entries) (partsFrom p1 p2 p3 p4 p5 p6 p7)
+stands-of k D entries p1 p2 p3 p4 p5 p6 p7 d good =
+    record {
+      sized = record { modulus = refl; columns = refl; parties = refl };
+      rows = refl;
+      executions = refl;
+      openings = refl;
+      deep = sym (d .is (keyWith k entries) refl);
+      entry = λ j h. refl;
+      second = refl;
+      third = refl;
+      fourth = refl;
+      sixth = refl;
+      seventh = refl;
+      form = clean (formChecks (keyWith k entries) (partsFrom p1 p2 p3 p4 p5 p6 p7)) good;
+    }
+
+pub stood-of : {q n m N M τ D : ℕ} {entries p2 p3 p4 p6 p7 : List ℕ} {K : Key} {P : Parts} → Standing q n m N M τ D entries p2 p3 p4 p6 p7 K P
+    → Stood q n m N M τ D entries p2 p3 p4 p6 p7
+stood-of {q} {n} {m} {N} {M} {τ} {D} {entries} {p2} {p3} {p4} {p6} {p7} {K} {P} so = record { key = K; parts = P; so = so }

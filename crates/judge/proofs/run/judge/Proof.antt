@@ -1,0 +1,106 @@
+-- `run::judge` meets its contract. Assumes nothing.
+use mathlib.Core.Path.{_≡_, sym, _∙_}
+use native.Mathlib.Omega.{arith}
+use lib.ListN.{length, drop}
+use Rattle.lists.specs.Check.{accepted, first}
+use Rattle.protocol.specs.Key.{entries, keyOf, keyChecks}
+use Rattle.key.specs.KeyLaws.{key-accepted}
+use Rattle.judge.proofs.Runs.{key-refused, room-refused, run-verdict, work-short, entries-short, room-enough, entries-room, front-long, key-with, verdict-with, work-most, three-of-four}
+use borrow.Author.Needs.{needs}
+use Rattle.judge.proofs.run.judge.Statement.{statement}
+use Rattle.judge.proofs.run.judge.Tie as tie
+use Rattle.judge.proofs.run.judge.Reads as reads
+use Rattle.judge.proofs.run.judge.Lts as lts
+use Rattle.judge.proofs.run.judge_run.Reads as judge-run-reads
+use Rattle.key.proofs.check.Reads as check-reads
+use Rattle.key.proofs.entries.Reads as entries-reads
+use Rattle.key.proofs.entry_count.Reads as entry-count-reads
+use Rattle.key.proofs.numbers_of.Reads as numbers-of-reads
+
+fine : (c : tie.Else1) → first (keyChecks (keyOf (c .before .before .before .before .before .before .args .key .now)) (c .before .before .before .before .before .before .args .key .now)) ≡ accepted
+fine c = key-accepted (c .before .before .before .before .before .before .args .key .now) (sym (c .before .check .ensures) ∙ c .if1 .left)
+
+-- src/run.rt:52:9
+check-requires : tie.Need-check-requires
+check-requires c κs = search needs
+
+-- src/run.rt:54:9
+returns : tie.Need-returns
+returns c = key-refused (c .before .before .before .before .before .before .args .key .now) (c .before .before .before .before .before .before .args .run .now) (length (c .before .before .before .before .before .before .args .work .now)) (length (c .before .before .before .before .before .before .args .entries .now)) (c .before .check .ensures) (c .if1 .taken)
+
+-- src/run.rt:56:9
+numbers-of-requires : tie.Need-numbers-of-requires
+numbers-of-requires c κs = fine c
+
+-- src/run.rt:57:9
+entry-count-requires : tie.Need-entry-count-requires
+entry-count-requires c κs = search needs
+
+-- src/run.rt:58:21
+mul-if2 : tie.Need-mul-if2
+mul-if2 c = search needs
+
+-- src/run.rt:58:21
+mul-if2-2 : tie.Need-mul-if2-2
+mul-if2-2 c = omega (arith, work-most _ _ (c .before .before .before .numbers-of .ensures .within .m-most) (c .before .before .before .numbers-of .ensures .within .N-most))
+
+-- src/run.rt:59:9
+returns-2 : tie.Need-returns-2
+returns-2 c = room-refused (c .before .before .before .before .before .before .before .before .before .before .before .args .key .now) (c .before .before .before .before .before .before .before .before .before .before .before .args .run .now) (length (c .before .before .before .before .before .before .before .before .before .before .before .args .work .now)) (length (c .before .before .before .before .before .before .before .before .before .before .before .args .entries .now)) (fine (c .before .before .before .before .before)) (work-short (c .before .before .before .before .before .before .before .before .before .before .before .args .key .now) (c .before .before .before .before .numbers-of .result) (c .before .before .before .before .numbers-of .ensures) (length (c .before .before .before .before .before .before .before .before .before .before .before .args .entries .now)) (c .if2 .taken))
+
+-- src/run.rt:62:9
+returns-3 : tie.Need-returns-3
+returns-3 c = room-refused (c .before .before .before .before .before .before .before .before .before .before .before .before .args .key .now) (c .before .before .before .before .before .before .before .before .before .before .before .before .args .run .now) (length (c .before .before .before .before .before .before .before .before .before .before .before .before .args .work .now)) (length (c .before .before .before .before .before .before .before .before .before .before .before .before .args .entries .now)) (fine (c .before .before .before .before .before .before)) (entries-short (c .before .before .before .before .before .before .before .before .before .before .before .before .args .key .now) (c .before .before .before .before .before .numbers-of .result) (c .before .before .before .before .before .numbers-of .ensures) (length (c .before .before .before .before .before .before .before .before .before .before .before .before .args .work .now)) (omega (arith, c .if3 .taken, c .before .before .before .before .entry-count .ensures .0)))
+
+-- src/run.rt:64:5
+entries-requires : tie.Need-entries-requires
+entries-requires c κs = (fine (c .before .before .before .before .before .before .before), entries-room (c .before .before .before .before .before .before .before .before .before .before .before .before .before .args .key .now) (c .before .before .before .before .before .before .numbers-of .result) (c .before .before .before .before .before .before .numbers-of .ensures) (c .before .before .before .before .before .entry-count .ensures .0) (c .before .if3 .left))
+
+-- src/run.rt:65:18
+slice-reshare-prefix-judge-run : tie.Need-slice-reshare-prefix-judge-run
+slice-reshare-prefix-judge-run c = search needs
+
+-- src/run.rt:65:18
+slice-aggregate-judge-run : tie.Need-slice-aggregate-judge-run
+slice-aggregate-judge-run c = sym (front-long (c .before .before .before .before .before .before .before .before .before .before .before .before .before .before .before .before .before .args .key .now) (c .before .before .before .before .before .before .before .before .before .before .numbers-of .result) (c .before .before .before .before .before .before .before .before .before .before .numbers-of .ensures) (drop (entries (keyOf (c .before .before .before .before .before .before .before .before .before .before .before .before .before .before .before .before .before .args .key .now))) (c .before .before .before .before .before .before .before .before .before .before .before .before .before .before .before .before .before .args .entries .now)) (c .before .before .before .before .before .before .before .before .before .entry-count .ensures .0) (c .before .before .before .entries .ensures))
+
+-- src/run.rt:65:5
+judge-run-requires : tie.Need-judge-run-requires
+judge-run-requires c κs =
+    let read = c .before .before .before .before .before .before .before .before .before .before .before .numbers-of .ensures in
+    (read .within, (omega (arith, c .before .before .before .before .before .before .before .before .before .before .entry-count .ensures .0, front-long (c .before .before .before .before .before .before .before .before .before .before .before .before .before .before .before .before .before .before .args .key .now) (c .before .before .before .before .before .before .before .before .before .before .before .numbers-of .result) (c .before .before .before .before .before .before .before .before .before .before .before .numbers-of .ensures) (drop (entries (keyOf (c .before .before .before .before .before .before .before .before .before .before .before .before .before .before .before .before .before .before .args .key .now))) (c .before .before .before .before .before .before .before .before .before .before .before .before .before .before .before .before .before .before .args .entries .now)) (c .before .before .before .before .before .before .before .before .before .before .entry-count .ensures .0) (c .before .before .before .before .entries .ensures)),
+    three-of-four _ _ (c .before .before .before .before .before .before .before .if2 .left)))
+
+-- src/run.rt:49:1
+same-length : tie.Need-same-length
+same-length c = search needs
+
+-- src/run.rt:49:1
+same-length-2 : tie.Need-same-length-2
+same-length-2 c = search needs
+
+-- src/run.rt:49:1
+returns-4 : tie.Need-returns-4
+returns-4 c =
+    run-verdict (c .before .before .before .before .before .before .before .before .before .before .before .before .before .before .before .before .before .before .before .before .before .args .key .now) (c .before .before .before .before .before .before .before .before .before .before .before .before .before .before .before .before .before .before .before .before .before .args .run .now) (length (c .before .before .before .before .before .before .before .before .before .before .before .before .before .before .before .before .before .before .before .before .before .args .work .now)) (length (c .before .before .before .before .before .before .before .before .before .before .before .before .before .before .before .before .before .before .before .before .before .args .entries .now)) (fine (c .before .before .before .before .before .before .before .before .before .before .before .before .before .before .before)) (room-enough (c .before .before .before .before .before .before .before .before .before .before .before .before .before .before .before .before .before .before .before .before .before .args .key .now) (c .before .before .before .before .before .before .before .before .before .before .before .before .before .before .numbers-of .result) (c .before .before .before .before .before .before .before .before .before .before .before .before .before .before .numbers-of .ensures) (c .before .before .before .before .before .before .before .before .before .before .if2 .left) (omega (arith, c .before .before .before .before .before .before .before .before .before .if3 .left, c .before .before .before .before .before .before .before .before .before .before .before .before .before .entry-count .ensures .0)))
+    (verdict-with (c .before .before .before .before .before .before .before .before .before .before .before .before .before .before .before .before .before .before .before .before .before .args .key .now) (c .before .before .before .before .before .before .before .before .before .before .before .before .before .before .numbers-of .result) (c .before .before .before .before .before .before .before .before .before .before .before .before .before .before .numbers-of .ensures) (c .before .before .before .before .before .before .before .before .before .before .before .before .before .before .before .before .before .before .before .before .before .args .run .now) (key-with (c .before .before .before .before .before .before .before .before .before .before .before .before .before .before .before .before .before .before .before .before .before .args .key .now) (c .before .before .before .before .before .before .before .before .before .before .before .before .before .before .numbers-of .result) (c .before .before .before .before .before .before .before .before .before .before .before .before .before .before .numbers-of .ensures) (drop (entries (keyOf (c .before .before .before .before .before .before .before .before .before .before .before .before .before .before .before .before .before .before .before .before .before .args .key .now))) (c .before .before .before .before .before .before .before .before .before .before .before .before .before .before .before .before .before .before .before .before .before .args .entries .now)) (c .before .before .before .before .before .before .before .before .before .before .before .before .before .entry-count .ensures .0) (c .before .before .before .before .before .before .before .entries .ensures)) (c .before .before .judge-run .ensures))
+
+pub judge-spec : {M : Type 1} → statement M
+judge-spec =
+    tie.close
+    (tie.spec
+    check-requires
+    returns
+    numbers-of-requires
+    entry-count-requires
+    mul-if2
+    mul-if2-2
+    returns-2
+    returns-3
+    entries-requires
+    slice-reshare-prefix-judge-run
+    slice-aggregate-judge-run
+    judge-run-requires
+    same-length
+    same-length-2
+    returns-4)
