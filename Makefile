@@ -1,20 +1,21 @@
 # make test     the gate: make tests, then rt ci
 # make tests    the second implementation on the vectors, the proved library beside both, the claims page
-# make definitions   the definitions of specs/, as they stand there, on the vectors
+# make definitions  the definitions of specs/, as they stand there, on the vectors
+# make compare  the judge beside the second implementation's on a million inputs
 # make bench    our time over that of C, in one run
 # make clean    removes what was built
 CC = gcc
-CFLAGS = -std=c11 -Wall -Wextra -Wpedantic -Ireference -Itests/c
+CFLAGS = -std=c11 -Wall -Wextra -Wpedantic -Iinclude -Ireference -Itests/c
 BUILD = target/tests
 REFERENCE = $(addprefix reference/,sha256.c aes128.c streams.c key.c tree.c execution.c transcript.c prover.c judge.c pair.c)
-HEADERS = $(wildcard reference/*.h tests/c/*.h)
+HEADERS = $(wildcard include/*.h reference/*.h tests/c/*.h)
 
-.PHONY: test tests claims reference definitions primitives bench clean
+.PHONY: test tests claims reference definitions primitives judge compare bench clean
 
 test:
 	./.ci/run
 
-tests: claims reference definitions primitives
+tests: claims reference definitions primitives judge
 
 claims:
 	python3 tools/check_claims.py
@@ -44,9 +45,26 @@ primitives: $(BUILD)/test_primitives
 $(BUILD)/bench_primitives_O%: tests/c/bench_primitives.c $(REFERENCE) $(HEADERS) target/staticlib/libprimitives.a | $(BUILD)
 	$(CC) $(CFLAGS) -O$* -o $@ tests/c/bench_primitives.c $(REFERENCE) target/staticlib/libprimitives.a
 
-bench: $(BUILD)/bench_primitives_O2 $(BUILD)/bench_primitives_O3
+$(BUILD)/judge_vectors: tests/c/judge_vectors.c include/badge.h target/staticlib/libbadge.a | $(BUILD)
+	$(CC) $(CFLAGS) -O2 -o $@ tests/c/judge_vectors.c target/staticlib/libbadge.a
+
+$(BUILD)/compare: reference/compare.c reference/samples.c $(REFERENCE) $(HEADERS) target/staticlib/libbadge.a | $(BUILD)
+	$(CC) $(CFLAGS) -O2 -DBADGE -o $@ reference/compare.c reference/samples.c $(REFERENCE) target/staticlib/libbadge.a
+
+judge: $(BUILD)/judge_vectors $(BUILD)/compare
+	python3 tests/judge_lines.py | $(BUILD)/judge_vectors
+	$(BUILD)/compare 200
+
+compare: $(BUILD)/compare
+	$(BUILD)/compare 25000
+
+$(BUILD)/bench_judge: tests/c/bench_judge.c reference/samples.c $(REFERENCE) $(HEADERS) target/staticlib/libbadge.a | $(BUILD)
+	$(CC) $(CFLAGS) -O3 -pthread -o $@ tests/c/bench_judge.c reference/samples.c $(REFERENCE) target/staticlib/libbadge.a
+
+bench: $(BUILD)/bench_primitives_O2 $(BUILD)/bench_primitives_O3 $(BUILD)/bench_judge
 	$(BUILD)/bench_primitives_O2
 	$(BUILD)/bench_primitives_O3
+	$(BUILD)/bench_judge
 
 clean:
 	rm -rf target reference/build
