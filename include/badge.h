@@ -21,7 +21,7 @@ extern "C" {
  *    5 an entry of q or more          14 a number of q or more      19 h_psi
  * An accepted transcript proves nothing by itself: whoever judges must have chosen E, L and the hidden list, after the messages before
  * them, unpredictably and once.
- * Stack: STACK_JUDGE. */
+ * Stack: 94 KB measured on x86-64, work lists included; it is measured, not proved. */
 uint32_t badge_judge(const uint8_t *key, size_t key_length, const uint8_t *run, size_t run_length);
 
 #ifdef __cplusplus
