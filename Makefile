@@ -10,12 +10,12 @@ BUILD = target/tests
 REFERENCE = $(addprefix reference/,sha256.c aes128.c streams.c key.c tree.c execution.c transcript.c prover.c judge.c pair.c)
 HEADERS = $(wildcard include/*.h reference/*.h tests/c/*.h)
 
-.PHONY: test tests claims reference definitions primitives judge compare bench clean
+.PHONY: test tests claims reference definitions primitives judge program compare bench clean
 
 test:
 	./.ci/run
 
-tests: claims reference definitions primitives judge
+tests: claims reference definitions primitives judge program
 
 claims:
 	python3 tools/check_claims.py
@@ -55,8 +55,15 @@ judge: $(BUILD)/judge_vectors $(BUILD)/compare
 	python3 tests/judge_lines.py | $(BUILD)/judge_vectors
 	$(BUILD)/compare 200
 
+target/bin/verdict: target/staticlib/libbadge.a crates/verdict/src/main.rt
+	rt check verdict > target/verdict.log 2>&1 || { cat target/verdict.log; exit 1; }
+	test -x $@ && touch $@
+
+program: target/bin/verdict
+	python3 tests/program.py target/bin/verdict
+
 compare: $(BUILD)/compare
-	$(BUILD)/compare 25000
+	$(BUILD)/compare 16000
 
 $(BUILD)/bench_judge: tests/c/bench_judge.c reference/samples.c $(REFERENCE) $(HEADERS) target/staticlib/libbadge.a | $(BUILD)
 	$(CC) $(CFLAGS) -O3 -pthread -o $@ tests/c/bench_judge.c reference/samples.c $(REFERENCE) target/staticlib/libbadge.a
