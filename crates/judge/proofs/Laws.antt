@@ -54,9 +54,9 @@ module _ (K : Key) (P : Parts) where
         is
         ∙ (ap (λ (l : List Check). numberOf (first l)) tests
         ∙ sym
-          (ap numberOf
-          (first-more (formChecks K P ++ cat (K .M) (checksAt K P)) (hashChecks K P)
-          (first-more (formChecks K P) (cat (K .M) (checksAt K P)) good ∙ w .clean z))))
+        (ap numberOf
+        (first-more (formChecks K P ++ cat (K .M) (checksAt K P)) (hashChecks K P)
+        (first-more (formChecks K P) (cat (K .M) (checksAt K P)) good ∙ w .clean z))))
 
 -- the sizes of a key that was read, and that a key and parts of good form stand
 pub within-of : (k : Numbers) (D : ℕ) → Limits k → Depth (k .parties) D → Within (k .q) (k .n) (k .m) (k .parties) (k .executions) (k .opened) D

@@ -114,9 +114,10 @@ module _ (key : List ℕ) (k : Numbers) (read : Read key k) where
   pub room-enough : {work entry : ℕ} → 4 * k .m * k .parties ≤ work → k .n * (k .m + 1) ≤ entry → lentEnough (keyOf key) work entry ≡ true
   unfolding lentEnough
   room-enough {work} {entry} h l =
-      each-holds (leb (4 * keyOf key .m * keyOf key .N) work ∷ leb (entries (keyOf key)) entry ∷ [])
-      (le-leb (4 * keyOf key .m * keyOf key .N) work (subst (λ (y : ℕ). y ≤ work) work-is h),
-      (le-leb (entries (keyOf key)) entry (subst (λ (y : ℕ). y ≤ entry) (entries-of k (keyOf key) (read .of)) l), tt))
+      each-holds (leb (4 * keyOf key .m * keyOf key .N) work ∷ leb (entries (keyOf key)) entry ∷ []) (
+        le-leb (4 * keyOf key .m * keyOf key .N) work (subst (λ (y : ℕ). y ≤ work) work-is h),
+        (le-leb (entries (keyOf key)) entry (subst (λ (y : ℕ). y ≤ entry) (entries-of k (keyOf key) (read .of)) l), tt),
+      )
 
   pub entries-room : {n size : ℕ} → n ≡ k .n * (k .m + 1) → n ≤ size → entries (keyOf key) ≤ size
   entries-room {n} {size} e h = subst (λ (y : ℕ). y ≤ size) (e ∙ entries-of k (keyOf key) (read .of)) h

@@ -9,8 +9,8 @@ ghost use Rattle.refusals.specs.Number.{numberOf};
 ghost use Rattle.protocol.specs.Judge.{partsChecks};
 ghost use Rattle.key.specs.Numbers.{Limits, keyWith};
 ghost use Rattle.walk.specs.Walk.{partsFrom};
-use walk::hashes;
 use key::Numbers;
+use walk::hashes;
 
 // The first number that applies to the parts, whose first six lengths are right, or 0.
 pub fn judge_parts(

@@ -54,7 +54,20 @@ fn answer(
 {
     let pi = views::answers::pi_of(q, m, parties, hidden, execution, given, kappa, work, sums);
     let shown = bytes4::le32(given, m);
-    outputs::outputs(q, n, m, parties, hidden, execution, seed, shown, entries, sums, work, outs);
+    outputs::outputs(
+        q,
+        n,
+        m,
+        parties,
+        hidden,
+        execution,
+        seed,
+        shown,
+        entries,
+        sums,
+        work,
+        outs,
+    );
     let psi = views::outputs::psi_of(execution, outs, kappa);
     let zero = views::outputs::sum_is_zero(q, outs);
     Outcome { pi, psi, zero }
@@ -101,7 +114,15 @@ fn evaluate(
 {
     let seeds = 16 * depth;
     let numbers = seeds + 32;
-    let h = views::parties::h_of(m, parties, hidden, execution, &reply[seeds..numbers], leaves, work);
+    let h = views::parties::h_of(
+        m,
+        parties,
+        hidden,
+        execution,
+        &reply[seeds..numbers],
+        leaves,
+        work,
+    );
     let omega = views::parties::omega_of(m, parties, execution, leaves, work);
     let mut sums = [0u32; 128];
     let mut outs = [0u32; 32];
@@ -122,7 +143,13 @@ fn evaluate(
     );
     let pi = r.pi;
     let psi = r.psi;
-    Evaluated { h, omega, pi, psi, zero: r.zero }
+    Evaluated {
+        h,
+        omega,
+        pi,
+        psi,
+        zero: r.zero,
+    }
 }
 
 // A kept execution, from what part 7 holds of it, its seed κ, the verifier's seed L and the key's entries.
@@ -159,5 +186,19 @@ pub fn kept_execution(
     ensures { λ _. ⌜ length (now (work .exit)) ≡ length (now (work .entry)) ⌝ }
 {
     prepare::reopen_kept(q, m, parties, depth, hidden, reply, leaves, work);
-    evaluate(q, n, m, parties, depth, hidden, execution, reply, kappa, seed, entries, leaves, work)
+    evaluate(
+        q,
+        n,
+        m,
+        parties,
+        depth,
+        hidden,
+        execution,
+        reply,
+        kappa,
+        seed,
+        entries,
+        leaves,
+        work,
+    )
 }

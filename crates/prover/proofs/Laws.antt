@@ -4,22 +4,25 @@ use Prim.Native.Nat.{ℕ, zero, suc, _+_, _*_, _-_, _<_, _≤_}
 use mathlib.Core.Path.{_≡_, refl, sym, _∙_, ap, ap₂, subst}
 use mathlib.Core.Bool.{Bool, true, false, not}
 use mathlib.Core.List.{List, [], _∷_, _++_, append-nil, append-assoc}
+use native.Mathlib.Numerals.{add-one}
 use native.Mathlib.Omega.{arith}
 use lib.Dec.{leb, eqb}
-use lib.ListN.{length, getD, take, drop, length-append}
-use lib.Seq.{length-take-le, drop-drop}
+use lib.ListN.{length, getD, take, drop, length-append, length-drop, take-append-drop, drop-of-length-le}
+use lib.Seq.{length-take-le, drop-drop, take-at, drop-at, take-all}
 use borrow.Author.Tests.{eq-eqb, ne-eqb, le-leb, lt-leb, leb-true, eqb-true, not-false}
-use Rattle.lists.specs.Index.{cat, holds, pick, part}
+use Rattle.lists.specs.Index.{cat, holds, pick, part, count}
 use Rattle.lists.specs.Check.{Check, _⇒_, Verdict, accepted, refused, first}
 use Rattle.lists.specs.CatLaws.{cat-more}
-use Rattle.lists.specs.TestLaws.{first-append, first-stops, first-more, Clean, clean, cleared, clean-left, clean-right, holds-each}
-use Rattle.sha.specs.State.{Fed, fed-join, fed-nil}
+use Rattle.lists.specs.TestLaws.{first-append, first-stops, first-more, Clean, clean, cleared, clean-left, clean-right, holds-each, count-suc, count-below, count-mono, pick-true}
+use Rattle.sha.specs.State.{Stands, Fed, fed-join, fed-nil}
 use Rattle.sha.specs.declared.Sha.{Sha}
 use Rattle.sha_core.specs.Fips180.{sha256}
 use Rattle.refusals.specs.Number.{numberOf, none-applies, Numbered, numbered-append}
 use Rattle.protocol.specs.Key.{Key, depth, entries, keyOf, keyChecks}
-use Rattle.protocol.specs.Shares.{View, dealt, hin, input}
-use Rattle.protocol.specs.Prover.{proverView, message1, hΓin, checks1, lentChecks, verdict1, output}
+use Rattle.protocol.specs.Shares.{View, dealt, hin, Ωin, Πin, b, s, input}
+use Rattle.protocol.specs.Prover.{proverView, kept, message1, hΓin, hπin, checks1, checks3, checks5, statementChecks, goodE, binary, solves, sized, opened, lentChecks, verdict1, verdict3, verdict5, message3, message5, output}
+use Rattle.protocol.proofs.Sizes.{message3-length}
+use Rattle.protocol.proofs.Opened.{opened-count, kept-count}
 use Rattle.execution.specs.Shown.{Limits, Sized, Holds, Seeded, Shown, placeOf}
 use Rattle.execution.specs.Prepared.{Opened, Dealt}
 use Rattle.execution.specs.Begun.{Begun}
@@ -29,7 +32,7 @@ use Rattle.key.specs.declared.Numbers.{Numbers}
 use Rattle.prover.specs.Answers.{answerOf}
 use Rattle.prover.specs.declared.Answer.the-variants.{Length, Refused}
 use Rattle.rounds.specs.Rounds.{OpenedHash}
-use Rattle.prover.specs.Parts.{FedH, First}
+use Rattle.prover.specs.Parts.{FedH, First, SizedInputs, Puts, Built, OmegaOf, PiOf, KeptPuts, KeptBuilt, KeptAll, KeptPart, Rest, Inputs}
 
 -- ---- refusals
 pub refused-is : (v : Verdict) {n : ℕ} → n ≡ numberOf v → (n ≡ 0 → ⊥) → v ≡ refused n
@@ -226,3 +229,352 @@ pub h-all : {q m N M D : ℕ} {seeds : List ℕ} {s₀ s : Sha} (x : ℕ) {r : L
 unfolding message1 hΓin
 h-all {seeds} x begun a e f =
     record { is = λ K sized M deep. f _ (begun .stands _ _ (a .fed K sized deep)) ∙ ap (λ n. sha256 (input 1 0 0 (cat n (λ e. sha256 (hin K (proverView K seeds [] e)))))) (e ∙ sym M) }
+
+-- ---- messages 3 and 5: the inputs
+module _ {m M : ℕ} {seeds secret κ : List ℕ} where
+  pub sized-1 : (length seeds ≡ 16 * M → ⊥) → SizedInputs m M seeds secret κ false
+  unfolding holds
+  sized-1 h = record { is = λ K em eM. rw (eM, ne-eqb (length seeds) (16 * M) h) }
+
+  pub sized-2 : length seeds ≡ 16 * M → (length secret ≡ m → ⊥) → SizedInputs m M seeds secret κ false
+  unfolding holds
+  sized-2 a h = record { is = λ K em eM. rw (eM, em, eq-eqb (length seeds) (16 * M) a, ne-eqb (length secret) m h) }
+
+  pub sized-3 : length seeds ≡ 16 * M → length secret ≡ m → (length κ ≡ 16 → ⊥) → SizedInputs m M seeds secret κ false
+  unfolding holds
+  sized-3 a b h = record { is = λ K em eM. rw (eM, em, eq-eqb (length seeds) (16 * M) a, eq-eqb (length secret) m b, ne-eqb (length κ) 16 h) }
+
+  pub sized-4 : length seeds ≡ 16 * M → length secret ≡ m → length κ ≡ 16 → SizedInputs m M seeds secret κ true
+  unfolding holds
+  sized-4 a b h = record { is = λ K em eM. rw (eM, em, eq-eqb (length seeds) (16 * M) a, eq-eqb (length secret) m b, eq-eqb (length κ) 16 h) }
+
+module _ (K : Key) (seeds secret E κ : List ℕ) where
+  pub statement-7 : goodE K E ≡ false → 7 ≡ numberOf (first (statementChecks K seeds secret E κ))
+  unfolding statementChecks first
+  statement-7 h = rw h
+
+  pub statement-8 : goodE K E ≡ true → binary K (λ k. getD secret k 0) ≡ false → 8 ≡ numberOf (first (statementChecks K seeds secret E κ))
+  unfolding statementChecks first
+  statement-8 a h = rw (a, h)
+
+  pub statement-9 : goodE K E ≡ true → binary K (λ k. getD secret k 0) ≡ true → solves K (λ k. getD secret k 0) ≡ false
+      → 9 ≡ numberOf (first (statementChecks K seeds secret E κ))
+  unfolding statementChecks first
+  statement-9 a b h = rw (a, b, h)
+
+  pub statement-0 : goodE K E ≡ true → binary K (λ k. getD secret k 0) ≡ true → solves K (λ k. getD secret k 0) ≡ true
+      → 0 ≡ numberOf (first (statementChecks K seeds secret E κ))
+  unfolding statementChecks first
+  statement-0 a b h = rw (a, b, h)
+
+  abbrev lengths3 : List Bool
+  lengths3 = sized seeds (16 * K .M) ∷ sized secret (K .m) ∷ sized κ 16 ∷ []
+
+  pub inputs3-6 : holds lengths3 ≡ false → 6 ≡ numberOf (first (checks3 K seeds secret E κ))
+  unfolding checks3 first
+  inputs3-6 h = rw h
+
+  pub inputs3-rest : {n : ℕ} → holds lengths3 ≡ true → n ≡ numberOf (first (statementChecks K seeds secret E κ)) → n ≡ numberOf (first (checks3 K seeds secret E κ))
+  unfolding checks3 first
+  inputs3-rest h e = rw h e
+
+  -- with the verifier's seed as well
+  with-seed : (a b c d : Bool) → holds (a ∷ b ∷ c ∷ d ∷ []) ≡ pick (holds (a ∷ b ∷ c ∷ [])) d false
+  unfolding holds
+  with-seed true true true true = refl
+  with-seed true true true false = refl
+  with-seed true true false d = refl
+  with-seed true false c d = refl
+  with-seed false b c d = refl
+
+  pub inputs5-6 : (L : List ℕ) → holds lengths3 ≡ false → 6 ≡ numberOf (first (checks5 K seeds secret E κ L))
+  unfolding checks5 first
+  inputs5-6 L h = rw (with-seed (sized seeds (16 * K .M)) (sized secret (K .m)) (sized κ 16) (sized L 16), h)
+
+  pub inputs5-seed : (L : List ℕ) → holds lengths3 ≡ true → (length L ≡ 16 → ⊥) → 6 ≡ numberOf (first (checks5 K seeds secret E κ L))
+  unfolding checks5 first
+  inputs5-seed L h w = rw (with-seed (sized seeds (16 * K .M)) (sized secret (K .m)) (sized κ 16) (sized L 16), h, ne-eqb (length L) 16 w)
+
+  pub inputs5-rest : (L : List ℕ) {n : ℕ} → holds lengths3 ≡ true → length L ≡ 16 → n ≡ numberOf (first (statementChecks K seeds secret E κ))
+      → n ≡ numberOf (first (checks5 K seeds secret E κ L))
+  unfolding checks5 first
+  inputs5-rest L h w e = rw (with-seed (sized seeds (16 * K .M)) (sized secret (K .m)) (sized κ 16) (sized L 16), h, eq-eqb (length L) 16 w) e
+
+  pub secret-long : holds lengths3 ≡ true → length secret ≡ K .m
+  secret-long h = eqb-true (length secret) (K .m) (holds-each lengths3 h .1 .0)
+
+-- ---- writing
+pub puts-none : (at : ℕ) (l : List ℕ) → Puts at at [] l l
+puts-none at l = record { long = omega arith; is = rw append-nil (sym (take-append-drop at l)) }
+
+pub puts-some : (at n : ℕ) (ys l : List ℕ) → length ys ≡ n → Puts at (at + n) ys l (take at l ++ (ys ++ drop (at + n - at) (drop at l)))
+puts-some at n ys l h =
+    let z : at + n - at ≡ n = omega arith in
+    record { long = omega arith; is = rw (z, drop-drop n at l) (sym (append-assoc (take at l) ys (drop (at + n) l))) }
+
+pub built-none : (f : ℕ → List ℕ) (l : List ℕ) → Built f 0 0 l l
+unfolding cat
+built-none f l = record { long = refl; is = refl }
+
+pub built-more : {f : ℕ → List ℕ} {x at to : ℕ} {ys l o r : List ℕ} → Built f x at l o → Puts at to ys o r → ys ≡ f x → Built f (x + 1) to l r
+built-more {f} {x} {at} {to} {ys} {l} {o} {r} a b e =
+    record {
+      long = rw (cat-more x f, length-append (cat x f) (f x), ← e, ← a .long) (b .long);
+      is = rw (cat-more x f, ← e, b .is, a .is, take-at (cat x f) (drop at l) at (sym (a .long)), later) refl;
+    }
+  where
+    later : drop to (cat x f ++ drop at l) ≡ drop to l
+    later =
+        rw (b .long) (rw (← drop-drop (length ys) at (cat x f ++ drop at l), drop-at (cat x f) (drop at l) at (sym (a .long))) (drop-drop (length ys) at l))
+
+pub built-all : {f : ℕ → List ℕ} {x n at : ℕ} {l o : List ℕ} → Built f x at l o → x ≡ n → length l ≤ at → o ≡ cat n f
+built-all {f} {x} {n} {at} {l} a e h = a .is ∙ rw (drop-of-length-le l {i = at} h, append-nil) (ap (λ k. cat k f) e)
+
+-- an item that is put where a test holds, or where it fails
+pub put-none : (t : Bool) (ys l : List ℕ) (at : ℕ) → t ≡ false → (Puts at at (pick t ys []) l l) × (at ≡ at + pick t 16 0)
+put-none t ys l at e = rw e (puts-none at l, omega arith)
+
+pub put-some : (t : Bool) (ys zs l : List ℕ) (at : ℕ) → t ≡ true → zs ≡ ys → length ys ≡ 16
+    → (Puts at (at + 16) (pick t ys []) l (take at l ++ (zs ++ drop (at + 16 - at) (drop at l)))) × (at + 16 ≡ at + pick t 16 0)
+put-some t ys zs l at e z h = rw (e, z) (puts-some at 16 ys l h, refl)
+
+pub count-16 : (x a b : ℕ) (p : ℕ → Bool) → a ≡ 16 * count x p → b ≡ a + pick (p x) 16 0 → b ≡ 16 * count (x + 1) p
+count-16 x a b p e h = rw (add-one x, count-suc x p) (go (p x) h)
+  where
+    go : (t : Bool) → b ≡ a + pick t 16 0 → b ≡ 16 * (count x p + pick t 1 0)
+    go true y = omega arith
+    go false y = omega arith
+
+pub count-32 : (x a b : ℕ) (p : ℕ → Bool) → a ≡ 32 * count x (λ j. not (p j)) → b ≡ a + pick (p x) 0 32 → b ≡ 32 * count (x + 1) (λ j. not (p j))
+count-32 x a b p e h = rw (add-one x, count-suc x (λ j. not (p j))) (go (p x) h)
+  where
+    go : (t : Bool) → b ≡ a + pick t 0 32 → b ≡ 32 * (count x (λ j. not (p j)) + pick (not t) 1 0)
+    go true y = omega arith
+    go false y = omega arith
+
+-- room for one more
+pub room-16 : (n x a w : ℕ) (p : ℕ → Bool) → x < n → a ≡ 16 * count x p → w ≡ 16 * count n p → p x ≡ true → a + 16 ≤ w
+room-16 n x a w p h e f t = omega (arith, count-below n p x h t)
+
+pub within-16 : (n x a w : ℕ) (p : ℕ → Bool) → x ≤ n → a ≡ 16 * count x p → w ≡ 16 * count n p → a ≤ w
+within-16 n x a w p h e f = omega (arith, count-mono p x n h)
+
+pub room-32 : (n x a w : ℕ) (p : ℕ → Bool) → x < n → a ≡ 32 * count x (λ j. not (p j)) → w ≡ 32 * count n (λ j. not (p j)) → p x ≡ false → a + 32 ≤ w
+room-32 n x a w p h e f t = omega (arith, count-below n (λ j. not (p j)) x h (ap not t))
+
+pub within-32 : (n x a w : ℕ) (p : ℕ → Bool) → x ≤ n → a ≡ 32 * count x (λ j. not (p j)) → w ≡ 32 * count n (λ j. not (p j)) → a ≤ w
+within-32 n x a w p h e f = omega (arith, count-mono (λ j. not (p j)) x n h)
+
+-- ---- one execution that is dealt
+s-last : (K : Key) (v : View) (k i : ℕ) → suc i ≡ K .N → s K v k i ≡ v .sN k
+unfolding s
+s-last K v k i e = pick-true (eqb (suc i) (K .N)) _ _ (eq-eqb (suc i) (K .N) e)
+
+module _ {q m N e : ℕ} {leaves work : List ℕ} (K : Key) (v : View) (sized : Sized q m N K) (some : 1 ≤ N) (ex : v .ex ≡ e) (whole : v .hid ≡ K .N) (S : Shown K v leaves work) where
+  last : suc (K .N - 1) ≡ K .N
+  last = omega (arith, sized .parties)
+
+  open-last : K .N - 1 ≡ v .hid → ⊥
+  open-last z = let no : ⊥ = omega (arith, z, whole, last) in no
+
+  pub for-omega : ForΩ m N e leaves work K v
+  for-omega =
+      record {
+        columns = sized .columns;
+        parties = sized .parties;
+        ex = ex;
+        seed = subst (λ (x : ℕ). part leaves (16 * (x - 1)) 16 ≡ v .seed (x - 1)) (sized .parties)
+            (S .seeds .at (K .N - 1) (omega (arith, last)) open-last);
+        sN = λ k h.
+            sym (s-last K v k (K .N - 1) last)
+            ∙ (sym (S .ss .at k (K .N - 1) (omega (arith, sized .columns)) (omega (arith, last)) open-last)
+            ∙ ap₂ (λ (x y : ℕ). getD work (placeOf x (y - 1) (2 * x + k)) 0) (sized .columns) (sized .parties));
+      }
+
+  here : (P : ℕ → ℕ → ℕ → Type 0) → P (K .m) (K .N) (v .hid) → P m N N
+  here P h =
+      subst (λ (x : ℕ). P x N N) (sized .columns) (subst (λ (x : ℕ). P (K .m) x N) (sized .parties) (subst (λ (x : ℕ). P (K .m) (K .N) x) (whole ∙ sized .parties) h))
+
+  pub for-pi : (given : List ℕ) → ForΠ q m N N e given work K v
+  for-pi given =
+      record {
+        sized = sized;
+        ex = ex;
+        hidden = whole ∙ sized .parties;
+        αh = λ h k y. absurd (omega arith);
+        bs = here (λ x y z. Holds x y z 0 work (b K v)) (S .bs);
+        ss = here (λ x y z. Holds x y z (2 * x) work (s K v)) (S .ss);
+      }
+
+pub omega-of : {q m N D e : ℕ} {master secret leaves work r : List ℕ} → 1 ≤ N → Dealt q m N D master secret leaves work
+    → ((K : Key) (v : View) → ForΩ m N e leaves work K v → r ≡ sha256 (Ωin K v)) → OmegaOf q m N D e master secret r
+unfolding dealt
+omega-of {e} {master} {secret} some so f =
+    record { is = λ K sized deep. f K (dealt K e master (λ k. getD secret k 0)) (for-omega K (dealt K e master (λ k. getD secret k 0)) sized some refl refl (so .shown K e sized deep)) }
+
+pub pi-of : {q m N D e : ℕ} {master secret κ leaves work r : List ℕ} (given : List ℕ) → 1 ≤ N → Dealt q m N D master secret leaves work
+    → ((K : Key) (v : View) → ForΠ q m N N e given work K v → r ≡ sha256 (Πin K v κ)) → PiOf q m N D e master secret κ r
+unfolding dealt
+pi-of {e} {master} {secret} given some so f =
+    record { is = λ K sized deep. f K (dealt K e master (λ k. getD secret k 0)) (for-pi K (dealt K e master (λ k. getD secret k 0)) sized some refl refl (so .shown K e sized deep) given) }
+
+-- Ω and Π go to their place
+pub kept-none : {q m N D x at : ℕ} {E seeds secret κ o p : List ℕ} → opened E x ≡ true → KeptPuts q m N D x at at E seeds secret κ o o p p
+kept-none {x} {at} {E} {o} {p} e =
+    record { to-is = rw e (omega arith); Ω = λ K sized deep. rw e (puts-none at o); Π = λ K sized deep. rw e (puts-none at p) }
+
+pub kept-some : {q m N D x at : ℕ} {E seeds secret κ o p a b : List ℕ} → opened E x ≡ false → length a ≡ 32 → length b ≡ 32
+    → OmegaOf q m N D x (take (16 * x + 16 - 16 * x) (drop (16 * x) seeds)) secret a
+    → PiOf q m N D x (take (16 * x + 16 - 16 * x) (drop (16 * x) seeds)) secret κ b
+    → {b' : List ℕ} → b' ≡ b
+    → KeptPuts q m N D x at (at + 32) E seeds secret κ o (take at o ++ (a ++ drop (at + 32 - at) (drop at o))) p (take at p ++ (b' ++ drop (at + 32 - at) (drop at p)))
+unfolding proverView
+kept-some {q} {m} {N} {D} {x} {at} {E} {seeds} {secret} {κ} {o} {p} {a} {b} e la lb ω π w =
+    let z : 16 * x + 16 - 16 * x ≡ 16 = omega arith in
+    record {
+      to-is = rw e refl;
+      Ω = λ K sized deep. rw (e, ← (rw z at ω) .is K sized deep) (puts-some at 32 a o la);
+      Π = λ K sized deep. rw (w, e, ← (rw z at π) .is K sized deep) (puts-some at 32 b p lb);
+    }
+
+pub kept-start : {q m N D : ℕ} {E seeds secret κ : List ℕ} (o p : List ℕ) → KeptBuilt q m N D 0 0 E seeds secret κ o o p p
+kept-start o p = record { Ω = λ K sized deep. built-none _ o; Π = λ K sized deep. built-none _ p }
+
+pub kept-more : {q m N D x at to : ℕ} {E seeds secret κ o₀ o p₀ p o' p' : List ℕ} → KeptBuilt q m N D x at E seeds secret κ o₀ o p₀ p
+    → KeptPuts q m N D x at to E seeds secret κ o o' p p' → KeptBuilt q m N D (x + 1) to E seeds secret κ o₀ o' p₀ p'
+kept-more a b =
+    record { Ω = λ K sized deep. built-more (a .Ω K sized deep) (b .Ω K sized deep) refl; Π = λ K sized deep. built-more (a .Π K sized deep) (b .Π K sized deep) refl }
+
+pub kept-all : {q m N D x M at : ℕ} {E seeds secret κ o₀ o p₀ p : List ℕ} → KeptBuilt q m N D x at E seeds secret κ o₀ o p₀ p → x ≡ M
+    → length o₀ ≤ at → length p₀ ≤ at → KeptAll q m N D M E seeds secret κ o p
+kept-all a e h k =
+    record { Ω = λ K sized deep. built-all (a .Ω K sized deep) e h; Π = λ K sized deep. built-all (a .Π K sized deep) e k }
+
+pub kept-part : {q m N D M : ℕ} {E seeds secret κ o p : List ℕ} {s₀ s : Sha} {r : List ℕ} → KeptAll q m N D M E seeds secret κ o p
+    → Begun 5 0 0 s₀ → Fed s₀ p s → ((d : List ℕ) → Stands s d → r ≡ sha256 d) → KeptPart q m N D M E seeds secret κ o r
+unfolding hπin kept
+kept-part {M} {E} {seeds} {secret} {κ} a begun fed f =
+    record {
+      Ω = a .Ω;
+      hπ = λ K sized deep eM.
+          f _ (begun .stands _ _ fed)
+          ∙ ap (λ x. sha256 (input 5 0 0 x))
+          (a .Π K sized deep ∙ ap (λ n. cat n (λ e. pick (opened E e) [] (sha256 (Πin K (proverView K seeds secret e) κ)))) (sym eM));
+    }
+
+-- ---- messages 3 and 5: the verdicts
+pub inputs-of3 : (K : Key) (seeds secret E κ : List ℕ) → Clean (checks3 K seeds secret E κ) → Inputs K seeds secret E κ
+unfolding checks3 statementChecks
+inputs-of3 K seeds secret E κ c =
+    let h = holds-each _ (not-false _ (c .0)) in
+    record {
+      seeds-long = eqb-true (length seeds) (16 * K .M) (h .0);
+      secret-long = eqb-true (length secret) (K .m) (h .1 .0);
+      κ-long = eqb-true (length κ) 16 (h .1 .1 .0);
+      good = not-false _ (c .1 .0);
+    }
+
+pub numbered3 : (K : Key) (seeds secret E κ : List ℕ) → Numbered (checks3 K seeds secret E κ)
+unfolding checks3 statementChecks
+numbered3 K seeds secret E κ = (omega arith, (omega arith, (omega arith, (omega arith, tt))))
+
+pub accepted3-of : (K : Key) (seeds secret E κ : List ℕ) {n : ℕ} → n ≡ numberOf (first (checks3 K seeds secret E κ)) → n ≡ 0 → first (checks3 K seeds secret E κ) ≡ accepted
+accepted3-of K seeds secret E κ e z = none-applies (checks3 K seeds secret E κ) (numbered3 K seeds secret E κ) (sym e ∙ z)
+
+module _ (key seeds secret E κ : List ℕ) (size from work entry : ℕ) where
+  abbrev lent3 : List Check
+  lent3 = lentChecks (keyOf key) (message3 (keyOf key) seeds secret E κ) size from work entry
+
+  pub refusal3-key : {n : ℕ} → n ≡ numberOf (first (keyChecks (keyOf key) key)) → (n ≡ 0 → ⊥) → n ≡ numberOf (verdict3 key seeds secret E κ size from work entry)
+  unfolding verdict3
+  refusal3-key = key-refused (keyChecks (keyOf key) key) (checks3 (keyOf key) seeds secret E κ) lent3
+
+  pub refusal3-inputs : {n : ℕ} → first (keyChecks (keyOf key) key) ≡ accepted → n ≡ numberOf (first (checks3 (keyOf key) seeds secret E κ)) → (n ≡ 0 → ⊥)
+      → n ≡ numberOf (verdict3 key seeds secret E κ size from work entry)
+  unfolding verdict3
+  refusal3-inputs = input-refused (keyChecks (keyOf key) key) (checks3 (keyOf key) seeds secret E κ) lent3
+
+  -- the lent lists' test, of a message of `count` bytes
+  pub refusal3-lent : {n i τ M count : ℕ} → first (keyChecks (keyOf key) key) ≡ accepted → i ≡ numberOf (first (checks3 (keyOf key) seeds secret E κ)) → i ≡ 0
+      → τ ≡ keyOf key .τ → M ≡ keyOf key .M → count ≡ 16 * τ + 32 * (M - τ) + 32
+      → (length (message3 (keyOf key) seeds secret E κ) ≡ count → n ≡ numberOf (first lent3)) → n ≡ numberOf (verdict3 key seeds secret E κ size from work entry)
+  unfolding verdict3
+  refusal3-lent {n} {i} {τ} {M} {count} k e z eτ eM ec f =
+      let a = accepted3-of (keyOf key) seeds secret E κ e z in
+      let g = inputs-of3 (keyOf key) seeds secret E κ (clean _ a) in
+      lent-refused (keyChecks (keyOf key) key) (checks3 (keyOf key) seeds secret E κ) lent3 k a
+      (f (message3-length (keyOf key) seeds secret E κ (g .seeds-long) (g .good) ∙ sym (ec ∙ ap₂ (λ (x y : ℕ). 16 * x + 32 * (y - x) + 32) eτ eM)))
+
+  pub accepted3 : {n : ℕ} → n ≡ numberOf (verdict3 key seeds secret E κ size from work entry) → n ≡ 0 → verdict3 key seeds secret E κ size from work entry ≡ accepted
+  unfolding verdict3
+  accepted3 e z = accepted-all (keyOf key) key (checks3 (keyOf key) seeds secret E κ) (message3 (keyOf key) seeds secret E κ) size from work entry (numbered3 (keyOf key) seeds secret E κ) (sym e ∙ z)
+
+  pub passed3 : verdict3 key seeds secret E κ size from work entry ≡ accepted
+      → Passed (keyOf key) key (checks3 (keyOf key) seeds secret E κ) (message3 (keyOf key) seeds secret E κ) size from work entry
+  unfolding verdict3
+  passed3 = passed (keyOf key) key (checks3 (keyOf key) seeds secret E κ) (message3 (keyOf key) seeds secret E κ) size from work entry
+
+-- a list that is written in two parts
+pub two-parts : (out a b : List ℕ) (mid n : ℕ) → length a ≡ mid → length (drop mid out) ≤ n
+    → take mid (a ++ drop mid out) ++ (b ++ drop n (drop mid (a ++ drop mid out))) ≡ a ++ b
+two-parts out a b mid n h k =
+    rw (take-at a (drop mid out) mid h, drop-at a (drop mid out) mid h, drop-of-length-le (drop mid out) {i = n} k, append-nil) refl
+
+pub rest-of : {q m N D M : ℕ} {E seeds secret κ a b h : List ℕ} → KeptPart q m N D M E seeds secret κ a h → b ≡ h → Rest q m N D M E seeds secret κ (a ++ b)
+rest-of k e = record { is = λ K sized deep eM. ap₂ (λ x y. x ++ y) (k .Ω K sized deep) (e ∙ k .hπ K sized deep eM) }
+
+pub message3-of : {q m N D M : ℕ} {E seeds secret κ a b : List ℕ} (K : Key) → Rest q m N D M E seeds secret κ b → Sized q m N K → depth K ≡ D → K .M ≡ M
+    → a ≡ cat M (λ e. pick (opened E e) (part seeds (16 * e) 16) []) → a ++ b ≡ message3 K seeds secret E κ
+unfolding message3 kept
+message3-of {M} {E} {seeds} {secret} {κ} {a} {b} K r sized deep eM ea =
+    ap₂ (λ x y. x ++ y) ea (r .is K sized deep eM)
+    ∙ rw (← eM)
+    (sym
+    (append-assoc (cat (K .M) (λ e. pick (opened E e) (part seeds (16 * e) 16) []))
+    (cat (K .M) (λ e. pick (opened E e) [] (sha256 (Ωin K (proverView K seeds secret e))))) (sha256 (hπin K (proverView K seeds secret) E κ))))
+
+pub opened-room : (K : Key) (E : List ℕ) (M τ w : ℕ) → goodE K E ≡ true → M ≡ K .M → τ ≡ K .τ → w ≡ 16 * τ → w ≡ 16 * count M (opened E)
+opened-room K E M τ w g eM eτ h = h ∙ ap (λ x. 16 * x) (eτ ∙ sym (opened-count K E g) ∙ ap (λ n. count n (opened E)) (sym eM))
+
+pub kept-room : (K : Key) (E : List ℕ) (M w : ℕ) → goodE K E ≡ true → M ≡ K .M → w ≡ 32 * (K .M - K .τ) + 32 → w ≡ 32 * count M (λ j. not (opened E j)) + 32
+kept-room K E M w g eM h = h ∙ ap (λ x. 32 * x + 32) (sym (kept-count K E g) ∙ ap (λ n. count n (λ j. not (opened E j))) (sym eM))
+
+-- what the writer of message 3 is told
+pub record Ready3 (key seeds secret E κ : List ℕ) (size from work entry count : ℕ) : Type 0 where
+  pub passes : verdict3 key seeds secret E κ size from work entry ≡ accepted
+  pub of-key : first (keyChecks (keyOf key) key) ≡ accepted
+  pub inputs : Inputs (keyOf key) seeds secret E κ
+  pub shares : 4 * keyOf key .m * keyOf key .N ≤ work
+  pub is : count ≡ 16 * keyOf key .τ + 32 * (keyOf key .M - keyOf key .τ) + 32
+  pub long : length (message3 (keyOf key) seeds secret E κ) ≡ count
+  pub ends : from + count ≤ size
+
+pub ready3 : (key seeds secret E κ : List ℕ) (size from work entry : ℕ) {n τ M count : ℕ} → n ≡ numberOf (verdict3 key seeds secret E κ size from work entry) → n ≡ 0
+    → τ ≡ keyOf key .τ → M ≡ keyOf key .M → count ≡ 16 * τ + 32 * (M - τ) + 32 → Ready3 key seeds secret E κ size from work entry count
+ready3 key seeds secret E κ size from work entry {n} {τ} {M} {count} e z eτ eM ec =
+    let a = accepted3 key seeds secret E κ size from work entry e z in
+    let p = passed3 key seeds secret E κ size from work entry a in
+    let i = inputs-of3 (keyOf key) seeds secret E κ (p .inputs) in
+    let s : count ≡ 16 * keyOf key .τ + 32 * (keyOf key .M - keyOf key .τ) + 32 = ec ∙ ap₂ (λ (x y : ℕ). 16 * x + 32 * (y - x) + 32) eτ eM in
+    let l : length (message3 (keyOf key) seeds secret E κ) ≡ count = message3-length (keyOf key) seeds secret E κ (i .seeds-long) (i .good) ∙ sym s in
+    record { passes = a; of-key = p .of-key; inputs = i; shares = p .room .shares; is = s; long = l; ends = end-within (p .room) l }
+
+pub both-parts : (out a b : List ℕ) (mid : ℕ) → length a ≡ mid
+    → take mid (a ++ drop mid out) ++ (b ++ drop (length (a ++ drop mid out) - mid) (drop mid (a ++ drop mid out))) ≡ a ++ b
+both-parts out a b mid h = two-parts out a b mid (length (a ++ drop mid out) - mid) h (omega (arith, length-append a (drop mid out)))
+
+pub later-part : (out a : List ℕ) (mid : ℕ) → length a ≡ mid
+    → length (take (length (a ++ drop mid out) - mid) (drop mid (a ++ drop mid out))) ≡ length out - mid
+later-part out a mid h =
+    let n : length (drop mid out) ≤ length (a ++ drop mid out) - mid = omega (arith, length-append a (drop mid out)) in
+    rw (drop-at a (drop mid out) mid h, take-all (length (a ++ drop mid out) - mid) (drop mid out) n) (length-drop mid out)
+
+pub rest-write : {q m N D M : ℕ} {E seeds secret κ : List ℕ} (out a b h : List ℕ) (mid : ℕ) → length a ≡ mid
+    → KeptPart q m N D M E seeds secret κ a h → b ≡ h
+    → Rest q m N D M E seeds secret κ (take mid (a ++ drop mid out) ++ (b ++ drop (length (a ++ drop mid out) - mid) (drop mid (a ++ drop mid out))))
+rest-write out a b h mid l r e = rw (both-parts out a b mid l) (rest-of r e)
+
+pub write-3 : {q m N D M : ℕ} {E seeds secret κ : List ℕ} (K : Key) (out a b : List ℕ) (mid : ℕ) → length a ≡ mid
+    → Rest q m N D M E seeds secret κ b → Sized q m N K → depth K ≡ D → K .M ≡ M → a ≡ cat M (λ e. pick (opened E e) (part seeds (16 * e) 16) [])
+    → take mid (a ++ drop mid out) ++ (b ++ drop (length (a ++ drop mid out) - mid) (drop mid (a ++ drop mid out))) ≡ message3 K seeds secret E κ
+write-3 K out a b mid l r sized deep eM ea = both-parts out a b mid l ∙ message3-of K r sized deep eM ea

@@ -7,11 +7,18 @@ ghost use lib.ListN.{length};
 ghost use Rattle.lists.specs.Check.{first};
 ghost use Rattle.refusals.specs.Number.{numberOf};
 ghost use Rattle.protocol.specs.Key.{Key, keyOf};
-ghost use Rattle.protocol.specs.Prover.{checks1, lentChecks, verdict1};
-ghost use Rattle.key.specs.Numbers.{Of, Limits};
+ghost use Rattle.protocol.specs.Prover.{checks1, checks3, checks5, statementChecks, lentChecks, verdict1, verdict3};
+ghost use Rattle.key.specs.Numbers.{Read};
+ghost use Rattle.prover.specs.Parts.{SizedInputs};
+use forms::good_opened;
+use forms::is_binary;
+use forms::is_solution;
 use key::Numbers;
 use refusals::INPUT_LENGTH;
+use refusals::OPENED_LIST;
 use refusals::ROOM;
+use refusals::SECRET_ENTRY;
+use refusals::SECRET_IMAGE;
 
 // 11: the place, the output and both work lists, for a message of `count` bytes.
 pub fn lent(
@@ -56,7 +63,14 @@ pub fn inputs_1(executions: usize, seeds: &[u8]) -> u32
 }
 
 // The first number that applies to message 1, or 0.
-pub fn refusal_1(key: &[u8], seeds: &[u8], size: usize, place: usize, work: usize, entries: usize) -> u32
+pub fn refusal_1(
+    key: &[u8],
+    seeds: &[u8],
+    size: usize,
+    place: usize,
+    work: usize,
+    entries: usize,
+) -> u32
     ensures { λ r. ⌜ r ≡ numberOf (verdict1 (now (key .entry)) (now (seeds .entry)) size place work entries) ⌝ }
 {
     let of_key = key::check(key);
@@ -69,14 +83,109 @@ pub fn refusal_1(key: &[u8], seeds: &[u8], size: usize, place: usize, work: usiz
     if of_inputs != 0 {
         return of_inputs;
     }
-    lent(
-        k.n,
-        k.m,
-        k.parties,
-        32,
-        size,
-        place,
-        work,
-        entries,
-    )
+    lent(k.n, k.m, k.parties, 32, size, place, work, entries)
+}
+
+// The master seeds, the secret and κ have their lengths.
+fn sized(m: usize, executions: usize, seeds: &[u8], secret: &[u8], kappa: &[u8]) -> bool
+    requires { ⌜ executions ≤ 32 ⌝ }
+    ensures { λ r. ⌜ SizedInputs m executions (now (seeds .entry)) (now (secret .entry)) (now (kappa .entry)) r ⌝ }
+{
+    if seeds.len() != 16 * executions {
+        return false;
+    }
+    if secret.len() != m {
+        return false;
+    }
+    if kappa.len() != 16 {
+        return false;
+    }
+    true
+}
+
+// 7, 8 and 9: E and the secret.
+fn statement(key: &[u8], k: Numbers, secret: &[u8], e: &[u8]) -> u32
+    requires { ⌜ Read (now key) k ⌝ }
+    requires { ⌜ length (now secret) ≡ k .m ⌝ }
+    ensures { λ r. ⌜ ((seeds κ : List ℕ) → r ≡ numberOf (first (statementChecks (keyOf (now (key .entry))) seeds (now (secret .entry)) (now (e .entry)) κ))) ⌝ }
+{
+    if !good_opened(e, k) {
+        return OPENED_LIST;
+    }
+    if !is_binary(secret) {
+        return SECRET_ENTRY;
+    }
+    if !is_solution(key, k, secret) {
+        return SECRET_IMAGE;
+    }
+    0
+}
+
+// 6 to 9 of message 3.
+pub fn inputs_3(key: &[u8], k: Numbers, seeds: &[u8], secret: &[u8], e: &[u8], kappa: &[u8]) -> u32
+    requires { ⌜ Read (now key) k ⌝ }
+    ensures { λ r. ⌜ r ≡ numberOf (first (checks3 (keyOf (now (key .entry))) (now (seeds .entry)) (now (secret .entry)) (now (e .entry)) (now (kappa .entry)))) ⌝ }
+{
+    if !sized(k.m, k.executions, seeds, secret, kappa) {
+        return INPUT_LENGTH;
+    }
+    statement(key, k, secret, e)
+}
+
+// 6 to 9 of messages 5 and 7.
+pub fn inputs_5(
+    key: &[u8],
+    k: Numbers,
+    seeds: &[u8],
+    secret: &[u8],
+    e: &[u8],
+    kappa: &[u8],
+    seed: &[u8],
+) -> u32
+    requires { ⌜ Read (now key) k ⌝ }
+    ensures { λ r. ⌜ r ≡ numberOf (first (checks5 (keyOf (now (key .entry))) (now (seeds .entry)) (now (secret .entry)) (now (e .entry)) (now (kappa .entry)) (now (seed .entry)))) ⌝ }
+{
+    if !sized(k.m, k.executions, seeds, secret, kappa) {
+        return INPUT_LENGTH;
+    }
+    if seed.len() != 16 {
+        return INPUT_LENGTH;
+    }
+    statement(key, k, secret, e)
+}
+
+// How many bytes message 3 has.
+pub fn size_3(opened: usize, executions: usize) -> usize
+    requires { ⌜ opened < executions ⌝ }
+    requires { ⌜ executions ≤ 32 ⌝ }
+    ensures { λ r. ⌜ (r ≡ 16 * opened + 32 * (executions - opened) + 32) × (r ≤ 2000) ⌝ }
+{
+    16 * opened + 32 * (executions - opened) + 32
+}
+
+// The first number that applies to message 3, or 0.
+pub fn refusal_3(
+    key: &[u8],
+    seeds: &[u8],
+    secret: &[u8],
+    e: &[u8],
+    kappa: &[u8],
+    size: usize,
+    place: usize,
+    work: usize,
+    entries: usize,
+) -> u32
+    ensures { λ r. ⌜ r ≡ numberOf (verdict3 (now (key .entry)) (now (seeds .entry)) (now (secret .entry)) (now (e .entry)) (now (kappa .entry)) size place work entries) ⌝ }
+{
+    let of_key = key::check(key);
+    if of_key != 0 {
+        return of_key;
+    }
+    let k = key::numbers_of(key);
+    let of_inputs = inputs_3(key, k, seeds, secret, e, kappa);
+    if of_inputs != 0 {
+        return of_inputs;
+    }
+    let count = size_3(k.opened, k.executions);
+    lent(k.n, k.m, k.parties, count, size, place, work, entries)
 }

@@ -10,8 +10,8 @@ ghost use Rattle.protocol.specs.Prover.{message1, verdict1, output};
 ghost use Rattle.execution.specs.Shown.{Limits};
 ghost use Rattle.prover.specs.Answers.{answerOf};
 ghost use Rattle.prover.specs.Parts.{First};
-use crate::checks;
 use crate::Answer;
+use crate::checks;
 use execution::commit;
 
 // hΓ.
@@ -61,7 +61,16 @@ fn digest(key: &[u8], seeds: &[u8], work: &mut [u32]) -> [u8; 32]
     let depth = key::depth(parties);
     let mut leaves = [0u8; 512];
     let size = 16 * parties;
-    h_gamma(q, m, parties, executions, depth, seeds, &mut leaves[..size], work)
+    h_gamma(
+        q,
+        m,
+        parties,
+        executions,
+        depth,
+        seeds,
+        &mut leaves[..size],
+        work,
+    )
 }
 
 // Message 1 into the output from a place on, or why not.

@@ -2,6 +2,7 @@
 
 pub mod checks;
 pub mod first;
+pub mod third;
 
 // The length of the message that was written, or the number of the refusal.
 pub enum Answer {

@@ -56,7 +56,7 @@ module _ (K : Key) (P : Parts) where
   only-kept e t d x is h =
       ap (λ (u : Bool). pick u [] d) is
       ∙ ⊎-elim (λ y. pick-true (opened (P .p2) e) [] d y ∙ sym (pick-true (opened (P .p2) e) [] x y)) (λ y. ap (λ (l : List ℕ). pick (opened (P .p2) e) [] l) (h y))
-        (decide (opened (P .p2) e))
+      (decide (opened (P .p2) e))
 
   module _ {e r at r′ at′ code : ℕ} {g₀ a₀ b₀ g a b : Sha} {h pi psi : List ℕ} (so : Going K P e r at g₀ a₀ b₀ g a b) (step : Stepped K P e code h pi psi r′ at′) where
     pub going-next : {g′ a′ b′ : Sha} {t : Bool} → code ≡ 0 → t ≡ opened (P .p2) e → Fed g h g′ → Fed a (pick t [] pi) a′ → Fed b (pick t [] psi) b′

@@ -85,7 +85,7 @@ module _ {q n m N M τ D : ℕ} {entries p2 p3 p4 p6 p7 : List ℕ} {K : Key} {P
           let w : 16 ≡ 16 * r + 16 - 16 * r = omega arith in
           pick-true (opened (P .p2) e) (openedView K P e) (keptView K P e) opened-P
           ∙ ap (λ (x : List ℕ). dealt K e x (λ k. 0))
-            (ap₂ (λ (x : List ℕ) (y : ℕ). part x (16 * y) 16) (so .third) (here .rank-is) ∙ ap (λ (x : ℕ). take x (drop (16 * r) p3)) w)
+          (ap₂ (λ (x : List ℕ) (y : ℕ). part x (16 * y) 16) (so .third) (here .rank-is) ∙ ap (λ (x : ℕ). take x (drop (16 * r) p3)) w)
 
       pub opened-step : {h : List ℕ} → OpenedHash q m N D e (take (16 * r + 16 - 16 * r) (drop (16 * r) p3)) h → Stepped K P e 0 h h h (r + 1) at
       unfolding rank
@@ -199,9 +199,9 @@ module _ {q n m N M τ D : ℕ} {entries p2 p3 p4 p6 p7 : List ℕ} {K : Key} {P
                 g
                 ∙ (ap₂ (λ (x y : ℕ). pick (eqb (suc x) y) true (same (take (16 * τ + 32 * (e - r) + 32 - (16 * τ + 32 * (e - r))) (drop (16 * τ + 32 * (e - r)) p3)) om)) (sym hides) (sym (so .sized .parties))
                 ∙ ⊎-elim
-                  (λ y. pick-true (eqb (suc (hidden K P e)) (K .N)) true _ y ∙ sym (pick-true (eqb (suc (hidden K P e)) (K .N)) true _ y))
-                  (λ y. ap₂ (λ (a b : List ℕ). pick (eqb (suc (hidden K P e)) (K .N)) true (same a b)) omega-is (ev .Ω-is (λ z. clash (eq-eqb _ _ z) y)))
-                  (decide (eqb (suc (hidden K P e)) (K .N))))
+                (λ y. pick-true (eqb (suc (hidden K P e)) (K .N)) true _ y ∙ sym (pick-true (eqb (suc (hidden K P e)) (K .N)) true _ y))
+                (λ y. ap₂ (λ (a b : List ℕ). pick (eqb (suc (hidden K P e)) (K .N)) true (same a b)) omega-is (ev .Ω-is (λ z. clash (eq-eqb _ _ z) y)))
+                (decide (eqb (suc (hidden K P e)) (K .N))))
 
             tests-are : keptTests good zero ≡ checksAt K P e
             unfolding executionChecks

@@ -90,7 +90,12 @@ pub fn walk(
         let pi = r.pi;
         let psi = r.psi;
         if r.code != 0 {
-            return Digests { code: r.code, gamma: h, pi, psi };
+            return Digests {
+                code: r.code,
+                gamma: h,
+                pi,
+                psi,
+            };
         }
         let opened = forms::is_opened(p2, e);
         let g = sha::update(gammas, &h);
@@ -105,7 +110,12 @@ pub fn walk(
     let gamma = sha::finish(gammas);
     let pi = sha::finish(pis);
     let psi = sha::finish(psis);
-    Digests { code: 0, gamma, pi, psi }
+    Digests {
+        code: 0,
+        gamma,
+        pi,
+        psi,
+    }
 }
 
 // The refusal of the three hashes, or 0.

@@ -107,8 +107,24 @@ fn opened_round(
     let to = from + 16;
     let mut leaves = [0u8; 512];
     let size = 16 * parties;
-    let h = rounds::opened_hash(q, m, parties, depth, e, &p3[from..to], &mut leaves[..size], work);
-    Step { code: 0, h, pi: h, psi: h, rank: rank + 1, at }
+    let h = rounds::opened_hash(
+        q,
+        m,
+        parties,
+        depth,
+        e,
+        &p3[from..to],
+        &mut leaves[..size],
+        work,
+    );
+    Step {
+        code: 0,
+        h,
+        pi: h,
+        psi: h,
+        rank: rank + 1,
+        at,
+    }
 }
 
 // A kept execution.
@@ -171,7 +187,14 @@ fn kept_round(
     let h = v.h;
     let pi = v.pi;
     let psi = v.psi;
-    Step { code, h, pi, psi, rank, at: end }
+    Step {
+        code,
+        h,
+        pi,
+        psi,
+        rank,
+        at: end,
+    }
 }
 
 // Execution e.

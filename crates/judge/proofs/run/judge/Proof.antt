@@ -67,9 +67,13 @@ slice-aggregate-judge-run c = sym (front-long (c .before .before .before .before
 -- src/run.rt:65:5
 judge-run-requires : tie.Need-judge-run-requires
 judge-run-requires c κs =
-    let read = c .before .before .before .before .before .before .before .before .before .before .before .numbers-of .ensures in
-    (read .within, (omega (arith, c .before .before .before .before .before .before .before .before .before .before .entry-count .ensures .0, front-long (c .before .before .before .before .before .before .before .before .before .before .before .before .before .before .before .before .before .before .args .key .now) (c .before .before .before .before .before .before .before .before .before .before .before .numbers-of .result) (c .before .before .before .before .before .before .before .before .before .before .before .numbers-of .ensures) (drop (entries (keyOf (c .before .before .before .before .before .before .before .before .before .before .before .before .before .before .before .before .before .before .args .key .now))) (c .before .before .before .before .before .before .before .before .before .before .before .before .before .before .before .before .before .before .args .entries .now)) (c .before .before .before .before .before .before .before .before .before .before .entry-count .ensures .0) (c .before .before .before .before .entries .ensures)),
-    three-of-four _ _ (c .before .before .before .before .before .before .before .if2 .left)))
+    let read = c .before .before .before .before .before .before .before .before .before .before .before .numbers-of .ensures in (
+      read .within,
+      (
+        omega (arith, c .before .before .before .before .before .before .before .before .before .before .entry-count .ensures .0, front-long (c .before .before .before .before .before .before .before .before .before .before .before .before .before .before .before .before .before .before .args .key .now) (c .before .before .before .before .before .before .before .before .before .before .before .numbers-of .result) (c .before .before .before .before .before .before .before .before .before .before .before .numbers-of .ensures) (drop (entries (keyOf (c .before .before .before .before .before .before .before .before .before .before .before .before .before .before .before .before .before .before .args .key .now))) (c .before .before .before .before .before .before .before .before .before .before .before .before .before .before .before .before .before .before .args .entries .now)) (c .before .before .before .before .before .before .before .before .before .before .entry-count .ensures .0) (c .before .before .before .before .entries .ensures)),
+        three-of-four _ _ (c .before .before .before .before .before .before .before .if2 .left),
+      ),
+    )
 
 -- src/run.rt:49:1
 same-length : tie.Need-same-length

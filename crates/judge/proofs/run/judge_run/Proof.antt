@@ -186,9 +186,13 @@ part-judge-parts-end-7 c = omega (arith, in6 (c .before .before .before .before 
 -- src/run.rt:34:5
 judge-parts-requires : tie.Need-judge-parts-requires
 judge-parts-requires c κs =
-    let p = c .before .before .before .before .before .before .before .before .before .before .before .before .before .before .before .before .before .before .before .before .pre in
-    (p .0, (slice-long (keyWith (c .before .before .before .before .before .before .before .before .before .before .before .before .before .before .before .before .before .before .before .before .args .k) (c .before .before .before .before .before .before .before .before .before .before .before .before .before .before .before .before .before .before .before .before .args .entries .now)) (c .before .before .before .before .before .before .before .before .before .before .before .before .before .before .before .before .before .before .before .before .args .run .now) (good (c .before .before .before .before .before .before .before .before .before .before .before .before .before .before .before)) 2 (omega arith) (e2 (c .before .before .before .before .before .before .before .before)) (e3 (c .before .before .before .before .before .before .before .before)) ∙ third-size (keyWith (c .before .before .before .before .before .before .before .before .before .before .before .before .before .before .before .before .before .before .before .before .args .k) (c .before .before .before .before .before .before .before .before .before .before .before .before .before .before .before .before .before .before .before .before .args .entries .now)),
-    (slice-long (keyWith (c .before .before .before .before .before .before .before .before .before .before .before .before .before .before .before .before .before .before .before .before .args .k) (c .before .before .before .before .before .before .before .before .before .before .before .before .before .before .before .before .before .before .before .before .args .entries .now)) (c .before .before .before .before .before .before .before .before .before .before .before .before .before .before .before .before .before .before .before .before .args .run .now) (good (c .before .before .before .before .before .before .before .before .before .before .before .before .before .before .before)) 3 (omega arith) (e3 (c .before .before .before .before .before .before .before .before)) (e4 (c .before .before .before .before .before .before .before .before)) ∙ fourth-size (keyWith (c .before .before .before .before .before .before .before .before .before .before .before .before .before .before .before .before .before .before .before .before .args .k) (c .before .before .before .before .before .before .before .before .before .before .before .before .before .before .before .before .before .before .before .before .args .entries .now)), (p .1 .0, p .1 .1))))
+    let p = c .before .before .before .before .before .before .before .before .before .before .before .before .before .before .before .before .before .before .before .before .pre in (
+      p .0,
+      (
+        slice-long (keyWith (c .before .before .before .before .before .before .before .before .before .before .before .before .before .before .before .before .before .before .before .before .args .k) (c .before .before .before .before .before .before .before .before .before .before .before .before .before .before .before .before .before .before .before .before .args .entries .now)) (c .before .before .before .before .before .before .before .before .before .before .before .before .before .before .before .before .before .before .before .before .args .run .now) (good (c .before .before .before .before .before .before .before .before .before .before .before .before .before .before .before)) 2 (omega arith) (e2 (c .before .before .before .before .before .before .before .before)) (e3 (c .before .before .before .before .before .before .before .before)) ∙ third-size (keyWith (c .before .before .before .before .before .before .before .before .before .before .before .before .before .before .before .before .before .before .before .before .args .k) (c .before .before .before .before .before .before .before .before .before .before .before .before .before .before .before .before .before .before .before .before .args .entries .now)),
+        (slice-long (keyWith (c .before .before .before .before .before .before .before .before .before .before .before .before .before .before .before .before .before .before .before .before .args .k) (c .before .before .before .before .before .before .before .before .before .before .before .before .before .before .before .before .before .before .before .before .args .entries .now)) (c .before .before .before .before .before .before .before .before .before .before .before .before .before .before .before .before .before .before .before .before .args .run .now) (good (c .before .before .before .before .before .before .before .before .before .before .before .before .before .before .before)) 3 (omega arith) (e3 (c .before .before .before .before .before .before .before .before)) (e4 (c .before .before .before .before .before .before .before .before)) ∙ fourth-size (keyWith (c .before .before .before .before .before .before .before .before .before .before .before .before .before .before .before .before .before .before .before .before .args .k) (c .before .before .before .before .before .before .before .before .before .before .before .before .before .before .before .before .before .before .before .before .args .entries .now)), (p .1 .0, p .1 .1)),
+      ),
+    )
 
 -- src/run.rt:18:1
 same-length : tie.Need-same-length

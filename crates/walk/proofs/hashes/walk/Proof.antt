@@ -105,12 +105,13 @@ loop-less c = omega (arith, c .before .before .before .before .before .before .b
 
 -- src/hashes.rt:69:5
 loop-again : tie.Need-loop-again Inv-loop μ-loop
-loop-again c =
-    (omega (arith, c .before .before .before .before .before .before .before .before .before .before .before .before .before .before .before .before .loop-test .taken),
-    (λ K P so.
-    going-next K P (c .before .before .before .before .before .before .before .before .before .before .before .before .before .before .before .before .before .loop .inv .1 K P so) (c .before .before .before .before .before .before .before .before .before .before .before .before .before .before .round .ensures .0 K P so) (c .before .before .before .before .before .before .before .if1 .left)
-    (c .before .before .before .before .before .before .is-opened .ensures ∙ ap (λ x. opened x (c .before .before .before .before .before .before .before .before .before .before .before .before .before .before .before .before .before .loop .e)) (sym (so .second))) (c .before .before .before .before .update .ensures) (c .before .before .feed-kept .ensures) (c .feed-kept2 .ensures)),
-    c .before .before .before .before .before .before .before .before .before .before .before .before .before .before .round .ensures .1 ∙ c .before .before .before .before .before .before .before .before .before .before .before .before .before .before .before .before .before .loop .inv .2)
+loop-again c = (
+  omega (arith, c .before .before .before .before .before .before .before .before .before .before .before .before .before .before .before .before .loop-test .taken),
+  (λ K P so.
+      going-next K P (c .before .before .before .before .before .before .before .before .before .before .before .before .before .before .before .before .before .loop .inv .1 K P so) (c .before .before .before .before .before .before .before .before .before .before .before .before .before .before .round .ensures .0 K P so) (c .before .before .before .before .before .before .before .if1 .left)
+      (c .before .before .before .before .before .before .is-opened .ensures ∙ ap (λ x. opened x (c .before .before .before .before .before .before .before .before .before .before .before .before .before .before .before .before .before .loop .e)) (sym (so .second))) (c .before .before .before .before .update .ensures) (c .before .before .feed-kept .ensures) (c .feed-kept2 .ensures)),
+  c .before .before .before .before .before .before .before .before .before .before .before .before .before .before .round .ensures .1 ∙ c .before .before .before .before .before .before .before .before .before .before .before .before .before .before .before .before .before .loop .inv .2,
+)
 
 -- src/hashes.rt:105:9
 finish-requires : tie.Need-finish-requires Inv-loop μ-loop

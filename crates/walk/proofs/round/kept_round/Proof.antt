@@ -84,10 +84,40 @@ kept-execution-requires c κs =
     let p = c .before .before .before .before .before .before .before .before .before .before .before .before .before .pre in
     let a = c .before .before .before .before .before .before .before .before .before .before .before .before .before .args in
     let h = c .before .before .before .before .before .hidden-party .ensures in
-    let z = ap (λ x. a .at + x) (c .before .before .before .before .reply-length .ensures) in
-    (p .0 .limits, (p .0 .N-listed, (p .0 .n-most, (omega (arith, p .1 .1 .1 .0, p .0 .M-most), (p .0 .full, (party (c .before .before .before .before .before),
-    (reply-long (c .before .before .before .before .before .before .before .before .before .before .before .before .before .pre .1 .0 .so) (c .before .before .before .before .before .before .before .before .before .before .before .before .before .pre .1 .1 .0 _ _ (c .before .before .before .before .before .before .before .before .before .before .before .before .before .pre .1 .0 .so)) (c .before .before .before .before .before .before .before .before .before .before .before .before .before .pre .1 .1 .1 .0) (c .before .before .before .before .before .before .before .before .before .before .before .before .before .pre .1 .1 .1 .1 .0) h z, (given-is (c .before .before .before .before .before .before .before .before .before .before .before .before .before .pre .1 .0 .so) (c .before .before .before .before .before .before .before .before .before .before .before .before .before .pre .1 .1 .0 _ _ (c .before .before .before .before .before .before .before .before .before .before .before .before .before .pre .1 .0 .so)) (c .before .before .before .before .before .before .before .before .before .before .before .before .before .pre .1 .1 .1 .0) (c .before .before .before .before .before .before .before .before .before .before .before .before .before .pre .1 .1 .1 .1 .0) h z, (length-take-le 16 (a .p7 .now) (replies-least (p .1 .0 .so)), (p .1 .1 .1 .1 .1 .1 .0, (p .1 .1 .1 .1 .1 .1 .1 .0,
-    (length-take-le _ (replicate 512 0) (few (c .before .before .before .before .before .before)), p .1 .1 .1 .1 .1 .1 .1 .1))))))))))))
+    let z = ap (λ x. a .at + x) (c .before .before .before .before .reply-length .ensures) in (
+      p .0 .limits,
+      (
+        p .0 .N-listed,
+        (
+          p .0 .n-most,
+          (
+            omega (arith, p .1 .1 .1 .0, p .0 .M-most),
+            (
+              p .0 .full,
+              (
+                party (c .before .before .before .before .before),
+                (
+                  reply-long (c .before .before .before .before .before .before .before .before .before .before .before .before .before .pre .1 .0 .so) (c .before .before .before .before .before .before .before .before .before .before .before .before .before .pre .1 .1 .0 _ _ (c .before .before .before .before .before .before .before .before .before .before .before .before .before .pre .1 .0 .so)) (c .before .before .before .before .before .before .before .before .before .before .before .before .before .pre .1 .1 .1 .0) (c .before .before .before .before .before .before .before .before .before .before .before .before .before .pre .1 .1 .1 .1 .0) h z,
+                  (
+                    given-is (c .before .before .before .before .before .before .before .before .before .before .before .before .before .pre .1 .0 .so) (c .before .before .before .before .before .before .before .before .before .before .before .before .before .pre .1 .1 .0 _ _ (c .before .before .before .before .before .before .before .before .before .before .before .before .before .pre .1 .0 .so)) (c .before .before .before .before .before .before .before .before .before .before .before .before .before .pre .1 .1 .1 .0) (c .before .before .before .before .before .before .before .before .before .before .before .before .before .pre .1 .1 .1 .1 .0) h z,
+                    (
+                      length-take-le 16 (a .p7 .now) (replies-least (p .1 .0 .so)),
+                      (
+                        p .1 .1 .1 .1 .1 .1 .0,
+                        (
+                          p .1 .1 .1 .1 .1 .1 .1 .0,
+                          (length-take-le _ (replicate 512 0) (few (c .before .before .before .before .before .before)), p .1 .1 .1 .1 .1 .1 .1 .1),
+                        ),
+                      ),
+                    ),
+                  ),
+                ),
+              ),
+            ),
+          ),
+        ),
+      ),
+    )
 
 -- src/round.rt:166:16
 mul-from : tie.Need-mul-from
@@ -139,11 +169,12 @@ returns c =
     let p = c .before .before .before .before .before .before .before .before .before .before .before .before .before .before .before .before .before .before .before .before .before .before .before .before .before .pre in
     let a = c .before .before .before .before .before .before .before .before .before .before .before .before .before .before .before .before .before .before .before .before .before .before .before .before .before .args in
     let h = c .before .before .before .before .before .before .before .before .before .before .before .before .before .before .before .before .before .hidden-party .ensures in
-    let z = ap (λ x. a .at + x) (c .before .before .before .before .before .before .before .before .before .before .before .before .before .before .before .before .reply-length .ensures) in
-    ((λ K P so.
-    kept-step so (p .1 .1 .0 K P so) (p .1 .1 .1 .0) (p .1 .1 .1 .1 .0) h z
-    (c .before .before .before .before .before .before .before .before .before .before .before .kept-execution .ensures .0 K P (kept-in so (p .1 .1 .0 K P so) (p .1 .1 .1 .0) (p .1 .1 .1 .1 .0) h z)) (c .before .before .before .before .omega-good .ensures) (c .before .before .before .kept-code .ensures)),
-    search needs)
+    let z = ap (λ x. a .at + x) (c .before .before .before .before .before .before .before .before .before .before .before .before .before .before .before .before .reply-length .ensures) in (
+      (λ K P so.
+          kept-step so (p .1 .1 .0 K P so) (p .1 .1 .1 .0) (p .1 .1 .1 .1 .0) h z
+          (c .before .before .before .before .before .before .before .before .before .before .before .kept-execution .ensures .0 K P (kept-in so (p .1 .1 .0 K P so) (p .1 .1 .1 .0) (p .1 .1 .1 .1 .0) h z)) (c .before .before .before .before .omega-good .ensures) (c .before .before .before .kept-code .ensures)),
+      search needs,
+    )
 
 pub kept-round-spec : {M : Type 1} → statement M
 kept-round-spec =

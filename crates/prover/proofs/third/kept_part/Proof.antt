@@ -1,0 +1,61 @@
+use mathlib.Core.Path.{sym}
+use native.Mathlib.Omega.{arith}
+use lib.Seq.{length-take-le}
+use borrow.Author.Needs.{needs}
+use Rattle.prover.proofs.third.kept_part.Statement.{statement}
+use Rattle.prover.proofs.third.kept_part.Tie as tie
+use Rattle.prover.proofs.third.kept_part.Reads as reads
+use Rattle.prover.proofs.third.kept_part.Lts as lts
+use Rattle.prover.proofs.third.kept_digest.Reads as kept-digest-reads
+
+-- src/third.rt:285:15
+mul-all : tie.Need-mul-all
+mul-all c = search needs
+
+-- src/third.rt:297:9
+array-borrow-prefix-leaves : tie.Need-array-borrow-prefix-leaves
+array-borrow-prefix-leaves c = search needs
+
+-- src/third.rt:297:9
+slice-aggregate-kept-digest : tie.Need-slice-aggregate-kept-digest
+slice-aggregate-kept-digest c = sym (length-take-le _ _ (omega (arith, c .before .before .before .before .before .before .before .pre .0 .N-most)))
+
+-- src/third.rt:300:9
+array-borrow-prefix-pis : tie.Need-array-borrow-prefix-pis
+array-borrow-prefix-pis c = search needs
+
+-- src/third.rt:300:9
+slice-aggregate-kept-digest-2 : tie.Need-slice-aggregate-kept-digest-2
+slice-aggregate-kept-digest-2 c = sym (length-take-le _ _ (omega (arith, c .before .before .before .before .before .before .before .before .before .before .pre .1 .1 .1 .1 .1 .1 .1 .1)))
+
+-- src/third.rt:287:5
+kept-digest-requires : tie.Need-kept-digest-requires
+kept-digest-requires c κs =
+    let p = c .before .before .before .before .before .before .before .before .before .before .pre in
+    (p .0, (p .1 .0, (p .1 .1 .0, (p .1 .1 .1 .0, (p .1 .1 .1 .1 .0, (p .1 .1 .1 .1 .1 .0, (length-take-le _ _ (omega (arith, p .0 .N-most)), (p .1 .1 .1 .1 .1 .1 .0, (p .1 .1 .1 .1 .1 .1 .1 .0, length-take-le _ _ (omega (arith, p .1 .1 .1 .1 .1 .1 .1 .1)))))))))))
+
+-- src/third.rt:259:1
+same-length : tie.Need-same-length
+same-length c = search needs
+
+-- src/third.rt:259:1
+same-length-2 : tie.Need-same-length-2
+same-length-2 c = search needs
+
+-- src/third.rt:259:1
+returns : tie.Need-returns
+returns c = search needs
+
+pub kept-part-spec : {M : Type 1} → statement M
+kept-part-spec =
+    tie.close
+    (tie.spec
+    mul-all
+    array-borrow-prefix-leaves
+    slice-aggregate-kept-digest
+    array-borrow-prefix-pis
+    slice-aggregate-kept-digest-2
+    kept-digest-requires
+    same-length
+    same-length-2
+    returns)
