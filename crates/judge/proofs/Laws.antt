@@ -11,9 +11,11 @@ use Rattle.lists.specs.TestLaws.{clean, first-stops, first-more}
 use Rattle.protocol.specs.Key.{Key, keptCount}
 use Rattle.protocol.specs.Transcript.{Parts}
 use Rattle.protocol.specs.Judge.{hπAt, formChecks, hashChecks, partsChecks}
+use Rattle.sha_core.specs.Fips180.{sha256}
 use Rattle.refusals.specs.Number.{numberOf, none-applies}
 use Rattle.key.specs.declared.Numbers.{Numbers}
 use Rattle.key.specs.Numbers.{Limits, Depth, keyWith}
+use Rattle.walk.specs.Lists.{hπFrom, hψFrom, listsSize}
 use Rattle.walk.specs.Walk.{partsFrom, Within, Standing, Stood, Walked, checksAt, hashTests}
 use Rattle.walk.proofs.Going.{refused-of}
 
@@ -30,7 +32,7 @@ module _ (K : Key) (P : Parts) where
       (first-stops (formChecks K P ++ cat (K .M) (checksAt K P)) (hashChecks K P)
       (first-stops (formChecks K P) (cat (K .M) (checksAt K P)) (refused-of (first (formChecks K P)) e ne))))
 
-  module _ (good : first (formChecks K P) ≡ accepted) {code : ℕ} {gamma pi psi : List ℕ} (w : Walked K P code gamma pi psi) where
+  module _ (good : first (formChecks K P) ≡ accepted) {code : ℕ} {lists : List ℕ} (w : Walked K P code lists) where
     pub walk-refused : (code ≡ 0 → ⊥) → code ≡ numberOf (first (partsChecks K P))
     unfolding partsChecks
     walk-refused ne =
@@ -46,11 +48,20 @@ module _ (K : Key) (P : Parts) where
         ap (λ (y : ℕ). take y (drop a (P .p3))) x ∙ ap (λ (y : ℕ). part (P .p3) y 32) e
 
     pub hash-verdict : {r : ℕ} (a : ℕ) → a ≡ 16 * K .τ + 32 * keptCount K → code ≡ 0
-        → r ≡ numberOf (first (hashTests (P .p1) gamma (take (a + 32 - a) (drop a (P .p3))) pi (P .p5) psi)) → r ≡ numberOf (first (partsChecks K P))
+        → r
+        ≡ numberOf
+        (first
+        (hashTests (P .p1) (sha256 (part lists 0 (32 * K .M))) (take (a + 32 - a) (drop a (P .p3))) (sha256 (part lists (hπFrom (K .M)) (32 * keptCount K))) (P .p5)
+        (sha256 (part lists (hψFrom (K .M) (keptCount K)) (32 * keptCount K)))))
+        → r ≡ numberOf (first (partsChecks K P))
     unfolding partsChecks hashChecks
     hash-verdict {r} a e z is =
-        let tests : hashTests (P .p1) gamma (take (a + 32 - a) (drop a (P .p3))) pi (P .p5) psi ≡ hashChecks K P =
-        λ i. hashTests (P .p1) (w .Γ-is z i) (given-is a e i) (w .Π-is z i) (P .p5) (w .Ψ-is z i) in
+        let l = w .listed z in
+        let tests :
+        hashTests (P .p1) (sha256 (part lists 0 (32 * K .M))) (take (a + 32 - a) (drop a (P .p3))) (sha256 (part lists (hπFrom (K .M)) (32 * keptCount K))) (P .p5)
+        (sha256 (part lists (hψFrom (K .M) (keptCount K)) (32 * keptCount K)))
+        ≡ hashChecks K P =
+        λ i. hashTests (P .p1) (sha256 (l .hΓ i)) (given-is a e i) (sha256 (l .hπ i)) (P .p5) (sha256 (l .hψ i)) in
         is
         ∙ (ap (λ (l : List Check). numberOf (first l)) tests
         ∙ sym
@@ -93,3 +104,20 @@ stands-of k D entries p1 p2 p3 p4 p5 p6 p7 d good =
 pub stood-of : {q n m N M τ D : ℕ} {entries p2 p3 p4 p6 p7 : List ℕ} {K : Key} {P : Parts} → Standing q n m N M τ D entries p2 p3 p4 p6 p7 K P
     → Stood q n m N M τ D entries p2 p3 p4 p6 p7
 stood-of {q} {n} {m} {N} {M} {τ} {D} {entries} {p2} {p3} {p4} {p6} {p7} {K} {P} so = record { key = K; parts = P; so = so }
+
+-- the three list hashes, of slices of the list of their inputs
+pub list-tests : (M c : ℕ) (p1 given p5 lists : List ℕ) {gamma pi psi : List ℕ} → length lists ≡ listsSize M c
+    → gamma ≡ sha256 (take (32 * M) lists) → pi ≡ sha256 (take (32 * M + 32 * c - 32 * M) (drop (32 * M) lists))
+    → psi ≡ sha256 (take (length lists - (32 * M + 32 * c)) (drop (32 * M + 32 * c) lists))
+    → numberOf (first (hashTests p1 gamma given pi p5 psi))
+    ≡ numberOf
+    (first
+    (hashTests p1 (sha256 (part lists 0 (32 * M))) given (sha256 (part lists (hπFrom M) (32 * c))) p5 (sha256 (part lists (hψFrom M c) (32 * c)))))
+list-tests M c p1 given p5 lists {gamma} {pi} {psi} long a b d =
+    let x : 32 * M + 32 * c - 32 * M ≡ 32 * c = omega arith in
+    let y : length lists - (32 * M + 32 * c) ≡ 32 * c = omega (arith, long) in
+    λ i.
+    numberOf
+    (first
+    (hashTests p1 (a i) given ((b ∙ ap (λ (z : ℕ). sha256 (take z (drop (32 * M) lists))) x) i) p5
+    ((d ∙ ap (λ (z : ℕ). sha256 (take z (drop (32 * M + 32 * c) lists))) y) i)))

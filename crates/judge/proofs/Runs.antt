@@ -61,21 +61,24 @@ module _ (K : Key) (x : List ℕ) where
     pub last-in : {a : ℕ} → a ≡ startOf K 6 → a ≤ length x
     last-in {a} e = omega (arith, start-within K x good 6 (omega arith))
 
-    pub header-good : {s0 s1 s2 s3 s4 s5 s6 r : ℕ} → s0 ≡ startOf K 0 → s1 ≡ startOf K 1 → s2 ≡ startOf K 2 → s3 ≡ startOf K 3 → s4 ≡ startOf K 4 → s5 ≡ startOf K 5
-        → s6 ≡ startOf K 6
-        → r ≡ numberOf (first (partsChecks K (partsFrom (take (s1 - s0) (drop s0 x)) (take (s2 - s1) (drop s1 x)) (take (s3 - s2) (drop s2 x)) (take (s4 - s3) (drop s3 x)) (take (s5 - s4) (drop s4 x)) (take (s6 - s5) (drop s5 x)) (take (length x - s6) (drop s6 x)))))
-        → r ≡ numberOf (first (runChecks K x))
-    unfolding runChecks partsOf
-    header-good {s0} {s1} {s2} {s3} {s4} {s5} {s6} {r} e0 e1 e2 e3 e4 e5 e6 is =
-        let last : take (length x - s6) (drop s6 x) ≡ partAt x 6 = ap (λ (y : ℕ). take (length x - y) (drop y x)) e6 ∙ sym (last-is K x good) in
-        is
-        ∙ ((λ i.
-        numberOf
-        (first
-        (partsChecks K
-        (partsFrom (slice-is 0 (omega arith) e0 e1 i) (slice-is 1 (omega arith) e1 e2 i) (slice-is 2 (omega arith) e2 e3 i) (slice-is 3 (omega arith) e3 e4 i)
-        (slice-is 4 (omega arith) e4 e5 i) (slice-is 5 (omega arith) e5 e6 i) (last i)))))
-        ∙ sym (ap numberOf (first-miss (not (goodHeader K x)) 12 (partsChecks K (partsOf x)) (not-of-true good))))
+    -- the parts are the slices
+    module _ {s0 s1 s2 s3 s4 s5 s6 : ℕ} (e0 : s0 ≡ startOf K 0) (e1 : s1 ≡ startOf K 1) (e2 : s2 ≡ startOf K 2) (e3 : s3 ≡ startOf K 3) (e4 : s4 ≡ startOf K 4)
+        (e5 : s5 ≡ startOf K 5) (e6 : s6 ≡ startOf K 6) where
+      pub parts-are :
+          partsFrom (take (s1 - s0) (drop s0 x)) (take (s2 - s1) (drop s1 x)) (take (s3 - s2) (drop s2 x)) (take (s4 - s3) (drop s3 x))
+          (take (s5 - s4) (drop s4 x)) (take (s6 - s5) (drop s5 x)) (take (length x - s6) (drop s6 x))
+          ≡ partsOf x
+      unfolding partsOf
+      parts-are =
+          let last : take (length x - s6) (drop s6 x) ≡ partAt x 6 = ap (λ (y : ℕ). take (length x - y) (drop y x)) e6 ∙ sym (last-is K x good) in
+          λ i.
+          partsFrom (slice-is 0 (omega arith) e0 e1 i) (slice-is 1 (omega arith) e1 e2 i) (slice-is 2 (omega arith) e2 e3 i) (slice-is 3 (omega arith) e3 e4 i)
+          (slice-is 4 (omega arith) e4 e5 i) (slice-is 5 (omega arith) e5 e6 i) (last i)
+
+    pub header-good : {P : Parts} {r : ℕ} → P ≡ partsOf x → r ≡ numberOf (first (partsChecks K P)) → r ≡ numberOf (first (runChecks K x))
+    unfolding runChecks
+    header-good {P} {r} e is =
+        is ∙ (ap (λ (y : Parts). numberOf (first (partsChecks K y))) e ∙ sym (ap numberOf (first-miss (not (goodHeader K x)) 12 (partsChecks K (partsOf x)) (not-of-true good))))
 
 -- ---- from the key's bytes
 module _ (key x : List ℕ) (work entry : ℕ) where

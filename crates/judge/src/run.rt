@@ -2,24 +2,30 @@
 
 ghost use mathlib.Core.Path.{_≡_};
 ghost use mathlib.Core.List.{List};
-ghost use Prim.Native.Nat.{ℕ, _+_, _*_, _≤_};
+ghost use Prim.Native.Nat.{ℕ, _+_, _*_, _-_, _≤_};
 ghost use lib.ListN.{length};
 ghost use Rattle.lists.specs.Check.{first};
 ghost use Rattle.refusals.specs.Number.{numberOf};
+ghost use Rattle.protocol.specs.Transcript.{partsOf};
 ghost use Rattle.protocol.specs.Judge.{runChecks, judgeLent};
 ghost use Rattle.key.specs.Numbers.{Limits, keyWith};
+ghost use Rattle.walk.specs.Lists.{listsSize, Listed};
 use crate::parts;
 use key::Numbers;
 use refusals::HEADER;
 use refusals::ROOM;
 use transcript::part_start;
 
-// The first number that applies to a file, for a key that was read, or 0.
-pub fn judge_run(k: Numbers, entries: &[u32], run: &[u8], work: &mut [u32]) -> u32
+// The first number that applies to a file, for a key that was read, or 0. `lists` gets the inputs of the three list hashes.
+pub fn judge_run(k: Numbers, entries: &[u32], run: &[u8], lists: &mut [u8], work: &mut [u32]) -> u32
     requires { ⌜ Limits k ⌝ }
     requires { ⌜ k .n * (k .m + 1) ≤ length (now entries) ⌝ }
+    requires { ⌜ length (now lists) ≡ listsSize (k .executions) (k .executions - k .opened) ⌝ }
     requires { ⌜ 3 * k .m * k .parties ≤ length (now work) ⌝ }
     ensures { λ r. ⌜ r ≡ numberOf (first (runChecks (keyWith k (now (entries .entry))) (now (run .entry)))) ⌝ }
+    ensures { λ r. ⌜ (r ≡ 0 → Listed (keyWith k (now (entries .entry))) (partsOf (now (run .entry))) (now (lists .exit))) ⌝ }
+    ensures { λ _. ⌜ length (now (lists .exit)) ≡ length (now (lists .entry)) ⌝ }
+    ensures { λ _. ⌜ length (now (work .exit)) ≡ length (now (work .entry)) ⌝ }
 {
     if !transcript::good_header(run, k) {
         return HEADER;
@@ -41,6 +47,7 @@ pub fn judge_run(k: Numbers, entries: &[u32], run: &[u8], work: &mut [u32]) -> u
         &run[s4..s5],
         &run[s5..s6],
         &run[s6..],
+        lists,
         work,
     )
 }
@@ -62,5 +69,7 @@ pub fn judge(key: &[u8], run: &[u8], entries: &mut [u32], work: &mut [u32]) -> u
         return ROOM;
     }
     key::entries(key, entries);
-    judge_run(k, &entries[..count], run, work)
+    let mut lists = [0u8; 3072];
+    let size = 32 * k.executions + 64 * (k.executions - k.opened);
+    judge_run(k, &entries[..count], run, &mut lists[..size], work)
 }

@@ -11,7 +11,7 @@ use lib.Dec.{eqb, leb, ltb}
 use lib.ListN.{length, getD, take, drop}
 use Rattle.lists.specs.Index.{pick, cat, every, count, same, part}
 use Rattle.lists.specs.Check.{Check, _⇒_, Verdict, accepted, refused, first}
-use Rattle.lists.specs.TestLaws.{decide, clash, pick-true, pick-false, every-at, count-hit, count-miss, count-below, count-le, count-not, holds-each, first-nil, first-hit, first-miss, not-of-true, not-of-false}
+use Rattle.lists.specs.TestLaws.{decide, clash, pick-true, pick-false, every-at, count-hit, count-miss, count-below, count-le, count-mono, count-not, holds-each, first-nil, first-hit, first-miss, not-of-true, not-of-false}
 use Rattle.lists.specs.CatLaws.{part-length}
 use Rattle.numbers.specs.Sum.{sum}
 use Rattle.sha_core.specs.Fips180.{sha256}
@@ -46,7 +46,7 @@ none = sym (ap numberOf first-nil)
 
 -- ---- one execution
 module _ {q n m N M τ D : ℕ} {entries p2 p3 p4 p6 p7 : List ℕ} {K : Key} {P : Parts} (so : Standing q n m N M τ D entries p2 p3 p4 p6 p7 K P) where
-  good-E : goodE K (P .p2) ≡ true
+  pub good-E : goodE K (P .p2) ≡ true
   unfolding formChecks
   good-E = not-false _ (so .form .0)
 
@@ -68,6 +68,15 @@ module _ {q n m N M τ D : ℕ} {entries p2 p3 p4 p6 p7 : List ℕ} {K : Key} {P
   module _ {e r at : ℕ} (here : Reached e r at K P) (before : e < M) where
     inside : e < K .M
     inside = omega (arith, so .executions)
+
+    -- the place among the kept, were it kept
+    pub place-most : (r ≤ e) × (e - r ≤ M - τ)
+    unfolding rank
+    place-most =
+        let p = opened (P .p2) in (
+          omega (arith, here .rank-is, count-le e p),
+          omega (arith, here .rank-is, so .executions, so .openings, opened-count K (P .p2) good-E, count-not e p, count-not (K .M) p, count-mono (λ j. not (p j)) e (K .M) (omega (arith, inside))),
+        )
 
     -- ---- opened by master seed
     module _ (t : opened p2 e ≡ true) where

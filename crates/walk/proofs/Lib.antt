@@ -1,2 +1,3 @@
-pub mod Laws
 pub mod Going
+pub mod Laws
+pub mod Stores

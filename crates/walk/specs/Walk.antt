@@ -4,16 +4,14 @@
 use Prim.Native.Nat.{ℕ, suc, _+_, _*_, _-_, _^_, _<_, _≤_}
 use mathlib.Core.Path.{_≡_}
 use mathlib.Core.Bool.{Bool, false, not}
-use mathlib.Core.List.{List, [], _∷_}
-use lib.ListN.{length, getD}
+use mathlib.Core.List.{List, [], _∷_, _++_}
+use lib.ListN.{length, getD, take, drop}
 use Rattle.lists.specs.Index.{pick, cat, same, part}
 use Rattle.lists.specs.Check.{Check, _⇒_, accepted, first}
 use Rattle.lists.specs.TestLaws.{Clean}
 use Rattle.numbers.specs.Inverse.{Member, Ns}
 use Rattle.numbers.specs.Sum.{sum}
 use Rattle.sha_core.specs.Fips180.{sha256}
-use Rattle.sha.specs.State.{Fed}
-use Rattle.sha.specs.declared.Sha.{Sha}
 use Rattle.protocol.specs.Key.{Key, depth}
 use Rattle.protocol.specs.Shares.{hin, Πin, Ψin}
 use Rattle.protocol.specs.Prover.{opened, rank, hΓin, hπin, hψin}
@@ -21,6 +19,7 @@ use Rattle.protocol.specs.Transcript.{Parts}
 use Rattle.protocol.specs.Judge.{replySize, κ, view, formChecks, executionChecks}
 use Rattle.refusals.specs.Number.{numberOf}
 use Rattle.execution.specs.Shown.{Limits, Sized}
+use Rattle.walk.specs.Lists.{Listed}
 
 -- the seven parts
 abbrev pub partsFrom : List ℕ → List ℕ → List ℕ → List ℕ → List ℕ → List ℕ → List ℕ → Parts
@@ -84,21 +83,30 @@ pub record Stepped (K : Key) (P : Parts) (e code : ℕ) (h pi psi : List ℕ) (r
   pub Ψ-is : opened (P .p2) e ≡ false → psi ≡ ΨAt K P e
   pub next : Reached (e + 1) r at K P
 
--- what it has once the executions before e are done: the three running hashes from their starts, and no refusal
-pub record Going (K : Key) (P : Parts) (e r at : ℕ) (g₀ a₀ b₀ g a b : Sha) : Type 0 where
+-- x with ys in place of the n entries from a place on
+abbrev pub put : List ℕ → ℕ → ℕ → List ℕ → List ℕ
+put x at n ys = take at x ++ (ys ++ drop n (drop at x))
+
+-- the digests of execution e are stored
+pub record Stored (M c e p : ℕ) (opened : Bool) (h pi psi before after : List ℕ) : Type 0 where
+  pub long : length after ≡ length before
+  pub Γ : part after 0 (32 * e + 32) ≡ part before 0 (32 * e) ++ h
+  pub Π : part after (32 * M) (32 * p + pick opened 0 32) ≡ part before (32 * M) (32 * p) ++ pick opened [] pi
+  pub Ψ : part after (32 * M + 32 * c) (32 * p + pick opened 0 32) ≡ part before (32 * M + 32 * c) (32 * p) ++ pick opened [] psi
+
+-- what the list holds once the executions before e are done, and no refusal
+pub record Going (K : Key) (P : Parts) (M c e r at : ℕ) (lists : List ℕ) : Type 0 where
   pub reached : Reached e r at K P
-  pub Γs : Fed g₀ (cat e (hashAt K P)) g
-  pub Πs : Fed a₀ (cat e (λ j. pick (opened (P .p2) j) [] (ΠAt K P j))) a
-  pub Ψs : Fed b₀ (cat e (λ j. pick (opened (P .p2) j) [] (ΨAt K P j))) b
+  pub Γs : part lists 0 (32 * e) ≡ cat e (hashAt K P)
+  pub Πs : part lists (32 * M) (32 * (e - r)) ≡ cat e (λ j. pick (opened (P .p2) j) [] (ΠAt K P j))
+  pub Ψs : part lists (32 * M + 32 * c) (32 * (e - r)) ≡ cat e (λ j. pick (opened (P .p2) j) [] (ΨAt K P j))
   pub clean : first (cat e (checksAt K P)) ≡ accepted
 
--- after the last execution: the first refusal, or the three hashes
-pub record Walked (K : Key) (P : Parts) (code : ℕ) (gamma pi psi : List ℕ) : Type 0 where
+-- after the last execution: the first refusal, or the inputs of the three list hashes
+pub record Walked (K : Key) (P : Parts) (code : ℕ) (lists : List ℕ) : Type 0 where
   pub code-is : code ≡ numberOf (first (cat (K .M) (checksAt K P)))
   pub clean : code ≡ 0 → first (cat (K .M) (checksAt K P)) ≡ accepted
-  pub Γ-is : code ≡ 0 → gamma ≡ sha256 (hΓin K (view K P))
-  pub Π-is : code ≡ 0 → pi ≡ sha256 (hπin K (view K P) (P .p2) (κ K P))
-  pub Ψ-is : code ≡ 0 → psi ≡ sha256 (hψin K (view K P) (P .p2) (κ K P) (P .p4))
+  pub listed : code ≡ 0 → Listed K P lists
 
 -- Ω and the sum of a kept execution, and the last three tests, on what was computed
 abbrev pub keptTests : (omega zero : Bool) → List Check

@@ -1,42 +1,58 @@
 // All executions of a transcript in turn, and the three hashes over them.
 
 ghost use mathlib.Core.Path.{_≡_};
-ghost use mathlib.Core.List.{List, []};
+ghost use mathlib.Core.Bool.{false};
+ghost use mathlib.Core.List.{List};
 ghost use Prim.Native.Nat.{ℕ, _+_, _*_, _-_, _<_, _≤_};
 ghost use lib.ListN.{length};
-ghost use Rattle.lists.specs.Index.{pick};
 ghost use Rattle.lists.specs.Check.{first};
-ghost use Rattle.sha.specs.State.{Fed};
 ghost use Rattle.refusals.specs.Number.{numberOf};
 ghost use Rattle.protocol.specs.Key.{Key};
 ghost use Rattle.protocol.specs.Transcript.{Parts};
-ghost use Rattle.walk.specs.Walk.{Within, Standing, Stood, Reached, Walked, hashTests};
+ghost use Rattle.walk.specs.Lists.{listsSize};
+ghost use Rattle.walk.specs.Walk.{Within, Standing, Stood, Reached, Stored, Walked, hashTests};
 use crate::round;
-use execution::commit;
 use refusals::H_GAMMA;
 use refusals::H_PI;
 use refusals::H_PSI;
-use sha::Sha;
 
-// The first refusal of an execution, or 0 and the three hashes.
-pub struct Digests {
-    pub code: u32,
-    pub gamma: [u8; 32],
-    pub pi: [u8; 32],
-    pub psi: [u8; 32],
-}
-
-// A digest of a kept execution is fed.
-fn feed_kept(s: Sha, opened: bool, d: &[u8]) -> Sha
-    ensures { λ r. ⌜ Fed s (pick opened [] (now (d .entry))) r ⌝ }
+// The digests of execution e to their places; those of a kept one have their place among the kept.
+fn store(
+    executions: usize,
+    kept: usize,
+    e: usize,
+    place: usize,
+    opened: bool,
+    h: &[u8],
+    pi: &[u8],
+    psi: &[u8],
+    lists: &mut [u8],
+)
+    requires { ⌜ (executions ≤ 32) × (kept ≤ 32) ⌝ }
+    requires { ⌜ e < executions ⌝ }
+    requires { ⌜ place ≤ kept ⌝ }
+    requires { ⌜ (opened ≡ false → place < kept) ⌝ }
+    requires { ⌜ length (now h) ≡ 32 ⌝ }
+    requires { ⌜ length (now pi) ≡ 32 ⌝ }
+    requires { ⌜ length (now psi) ≡ 32 ⌝ }
+    requires { ⌜ length (now lists) ≡ listsSize executions kept ⌝ }
+    ensures { λ _. ⌜ Stored executions kept e place opened (now (h .entry)) (now (pi .entry)) (now (psi .entry)) (now (lists .entry)) (now (lists .exit)) ⌝ }
 {
+    let a = 32 * e;
+    let b = a + 32;
+    streams::copy(h, &mut lists[a..b]);
     if opened {
-        return s;
+        return;
     }
-    sha::update(s, d)
+    let c = 32 * executions + 32 * place;
+    let d = c + 32;
+    streams::copy(pi, &mut lists[c..d]);
+    let f = c + 32 * kept;
+    let g = f + 32;
+    streams::copy(psi, &mut lists[f..g]);
 }
 
-// Every execution in turn.
+// Every execution in turn: the first refusal, or 0 and the inputs of the three list hashes.
 pub fn walk(
     q: u32,
     n: usize,
@@ -51,19 +67,20 @@ pub fn walk(
     p4: &[u8],
     p6: &[u8],
     p7: &[u8],
+    lists: &mut [u8],
     work: &mut [u32],
-) -> Digests
+) -> u32
     requires { ⌜ Within q n m parties executions openings depth ⌝ }
     requires { ⌜ Stood q n m parties executions openings depth (now entries) (now p2) (now p3) (now p4) (now p6) (now p7) ⌝ }
     requires { ⌜ length (now p3) ≡ 16 * openings + 32 * (executions - openings) + 32 ⌝ }
     requires { ⌜ length (now p4) ≡ 16 ⌝ }
     requires { ⌜ n * (m + 1) ≤ length (now entries) ⌝ }
+    requires { ⌜ length (now lists) ≡ listsSize executions (executions - openings) ⌝ }
     requires { ⌜ 3 * m * parties ≤ length (now work) ⌝ }
-    ensures { λ r. ⌜ ((K : Key) (P : Parts) → Standing q n m parties executions openings depth (now (entries .entry)) (now (p2 .entry)) (now (p3 .entry)) (now (p4 .entry)) (now (p6 .entry)) (now (p7 .entry)) K P → Walked K P (r .code) (r .gamma) (r .pi) (r .psi)) ⌝ }
+    ensures { λ r. ⌜ ((K : Key) (P : Parts) → Standing q n m parties executions openings depth (now (entries .entry)) (now (p2 .entry)) (now (p3 .entry)) (now (p4 .entry)) (now (p6 .entry)) (now (p7 .entry)) K P → Walked K P r (now (lists .exit))) ⌝ }
+    ensures { λ _. ⌜ length (now (lists .exit)) ≡ length (now (lists .entry)) ⌝ }
 {
-    let mut gammas = commit::begin(1, 0, 0);
-    let mut pis = commit::begin(5, 0, 0);
-    let mut psis = commit::begin(7, 0, 0);
+    let kept = executions - openings;
     let mut rank = 0;
     let mut at = 16;
     for e in 0..executions {
@@ -90,32 +107,14 @@ pub fn walk(
         let pi = r.pi;
         let psi = r.psi;
         if r.code != 0 {
-            return Digests {
-                code: r.code,
-                gamma: h,
-                pi,
-                psi,
-            };
+            return r.code;
         }
         let opened = forms::is_opened(p2, e);
-        let g = sha::update(gammas, &h);
-        let a = feed_kept(pis, opened, &pi);
-        let b = feed_kept(psis, opened, &psi);
-        gammas = g;
-        pis = a;
-        psis = b;
+        store(executions, kept, e, e - rank, opened, &h, &pi, &psi, lists);
         rank = r.rank;
         at = r.at;
     }
-    let gamma = sha::finish(gammas);
-    let pi = sha::finish(pis);
-    let psi = sha::finish(psis);
-    Digests {
-        code: 0,
-        gamma,
-        pi,
-        psi,
-    }
+    0
 }
 
 // The refusal of the three hashes, or 0.
