@@ -1,38 +1,33 @@
 -- Laws for the prover's messages.
 -- Assumes nothing.
-use Prim.Native.Nat.{ℕ, zero, suc, _+_, _*_, _-_, _<_, _≤_}
-use mathlib.Core.Path.{_≡_, refl, sym, _∙_, ap, ap₂, subst}
+use Prim.Native.Nat.{ℕ, _+_, _*_, _-_, _<_, _≤_}
+use mathlib.Core.Path.{_≡_, refl, sym, _∙_, ap, ap₂}
 use mathlib.Core.Bool.{Bool, true, false, not}
 use mathlib.Core.List.{List, [], _∷_, _++_, append-nil, append-assoc}
 use native.Mathlib.Numerals.{add-one}
 use native.Mathlib.Omega.{arith}
-use lib.Dec.{leb, eqb}
 use lib.ListN.{length, getD, take, drop, length-append, length-drop, take-append-drop, drop-of-length-le}
-use lib.Seq.{length-take-le, drop-drop, take-at, drop-at, take-all}
+use lib.Seq.{drop-drop, take-at, drop-at, take-all}
 use borrow.Author.Tests.{eq-eqb, ne-eqb, le-leb, lt-leb, leb-true, eqb-true, not-false}
-use Rattle.lists.specs.Index.{cat, holds, pick, part, count}
+use Rattle.lists.specs.Index.{cat, holds, pick, count}
 use Rattle.lists.specs.Check.{Check, _⇒_, Verdict, accepted, refused, first}
 use Rattle.lists.specs.CatLaws.{cat-more}
-use Rattle.lists.specs.TestLaws.{first-append, first-stops, first-more, Clean, clean, cleared, clean-left, clean-right, holds-each, count-suc, count-below, count-mono, pick-true}
-use Rattle.sha.specs.State.{Stands, Fed, fed-join, fed-nil}
-use Rattle.sha.specs.declared.Sha.{Sha}
-use Rattle.sha_core.specs.Fips180.{sha256}
+use Rattle.lists.specs.TestLaws.{first-stops, first-more, Clean, clean, cleared, clean-left, clean-right, holds-each, count-suc, count-below, count-mono}
+use Rattle.numbers.specs.Sum.{sum}
 use Rattle.refusals.specs.Number.{numberOf, none-applies, Numbered, numbered-append}
-use Rattle.protocol.specs.Key.{Key, depth, entries, keyOf, keyChecks}
-use Rattle.protocol.specs.Shares.{View, dealt, hin, Ωin, Πin, b, s, input}
-use Rattle.protocol.specs.Prover.{proverView, kept, message1, hΓin, hπin, checks1, checks3, checks5, statementChecks, goodE, binary, solves, sized, opened, lentChecks, verdict1, verdict3, verdict5, message3, message5, output}
-use Rattle.protocol.proofs.Sizes.{message3-length}
+use Rattle.protocol.specs.Key.{Key, entries, keyOf, keyChecks}
+use Rattle.protocol.specs.Shares.{b, s}
+use Rattle.protocol.specs.Prover.{message1, message3, message5, message7, checks1, checks3, checks5, checks7, statementChecks, goodE, goodHidden, binary, solves, sized, opened, lentChecks, verdict1, verdict3, verdict5, verdict7, output}
+use Rattle.protocol.specs.Judge.{hidden, givenCount, replySize}
+use Rattle.protocol.proofs.Sizes.{message3-length, message5-length, message7-length, replyBytes, repliesBytes}
 use Rattle.protocol.proofs.Opened.{opened-count, kept-count}
-use Rattle.execution.specs.Shown.{Limits, Sized, Holds, Seeded, Shown, placeOf}
-use Rattle.execution.specs.Prepared.{Opened, Dealt}
-use Rattle.execution.specs.Begun.{Begun}
-use Rattle.views.specs.Seen.{ForH, ForΩ, ForΠ}
-use Rattle.key.specs.Numbers.{Of, Limits as KeyLimits}
+use Rattle.execution.specs.Shown.{Limits, Sized}
+use Rattle.key.specs.Numbers.{Of, keyWith, Limits as KeyLimits}
 use Rattle.key.specs.declared.Numbers.{Numbers}
+use Rattle.transcript.specs.Replies.{partsWith, length-of}
 use Rattle.prover.specs.Answers.{answerOf}
 use Rattle.prover.specs.declared.Answer.the-variants.{Length, Refused}
-use Rattle.rounds.specs.Rounds.{OpenedHash}
-use Rattle.prover.specs.Parts.{FedH, First, SizedInputs, Puts, Built, OmegaOf, PiOf, KeptPuts, KeptBuilt, KeptAll, KeptPart, Rest, Inputs}
+use Rattle.prover.specs.Parts.{SizedInputs, Puts, Built, Inputs}
 
 -- ---- refusals
 pub refused-is : (v : Verdict) {n : ℕ} → n ≡ numberOf v → (n ≡ 0 → ⊥) → v ≡ refused n
@@ -210,26 +205,6 @@ pub seeds-long : (K : Key) (seeds : List ℕ) → Clean (checks1 K seeds) → le
 unfolding checks1
 seeds-long K seeds c = eqb-true (length seeds) (16 * K .M) (not-false _ (c .0))
 
-pub h-none : (q m N D : ℕ) (seeds : List ℕ) (s : Sha) → FedH q m N D seeds s 0 s
-unfolding cat
-h-none q m N D seeds s = record { fed = λ K sized deep. fed-nil s }
-
-pub h-more : {q m N D : ℕ} {seeds : List ℕ} {s₀ s t : Sha} (x : ℕ) {r : List ℕ} → FedH q m N D seeds s₀ x s
-    → OpenedHash q m N D x (take (16 * x + 16 - 16 * x) (drop (16 * x) seeds)) r → Fed s r t → FedH q m N D seeds s₀ (x + 1) t
-unfolding proverView
-h-more {q} {m} {N} {D} {seeds} x a h b =
-    let e : 16 * x + 16 - 16 * x ≡ 16 = omega arith in
-    record {
-      fed = λ K sized deep.
-          rw (cat-more x (λ e. sha256 (hin K (proverView K seeds [] e))), ← (rw e at h) .is K (λ k. getD [] k 0) sized deep) (fed-join (a .fed K sized deep) b);
-    }
-
-pub h-all : {q m N M D : ℕ} {seeds : List ℕ} {s₀ s : Sha} (x : ℕ) {r : List ℕ} → Begun 1 0 0 s₀ → FedH q m N D seeds s₀ x s → x ≡ M
-    → ((d : List ℕ) → Rattle.sha.specs.State.Stands s d → r ≡ sha256 d) → First q m N M D seeds r
-unfolding message1 hΓin
-h-all {seeds} x begun a e f =
-    record { is = λ K sized M deep. f _ (begun .stands _ _ (a .fed K sized deep)) ∙ ap (λ n. sha256 (input 1 0 0 (cat n (λ e. sha256 (hin K (proverView K seeds [] e)))))) (e ∙ sym M) }
-
 -- ---- messages 3 and 5: the inputs
 module _ {m M : ℕ} {seeds secret κ : List ℕ} where
   pub sized-1 : (length seeds ≡ 16 * M → ⊥) → SizedInputs m M seeds secret κ false
@@ -365,103 +340,6 @@ room-32 n x a w p h e f t = omega (arith, count-below n (λ j. not (p j)) x h (a
 pub within-32 : (n x a w : ℕ) (p : ℕ → Bool) → x ≤ n → a ≡ 32 * count x (λ j. not (p j)) → w ≡ 32 * count n (λ j. not (p j)) → a ≤ w
 within-32 n x a w p h e f = omega (arith, count-mono (λ j. not (p j)) x n h)
 
--- ---- one execution that is dealt
-s-last : (K : Key) (v : View) (k i : ℕ) → suc i ≡ K .N → s K v k i ≡ v .sN k
-unfolding s
-s-last K v k i e = pick-true (eqb (suc i) (K .N)) _ _ (eq-eqb (suc i) (K .N) e)
-
-module _ {q m N e : ℕ} {leaves work : List ℕ} (K : Key) (v : View) (sized : Sized q m N K) (some : 1 ≤ N) (ex : v .ex ≡ e) (whole : v .hid ≡ K .N) (S : Shown K v leaves work) where
-  last : suc (K .N - 1) ≡ K .N
-  last = omega (arith, sized .parties)
-
-  open-last : K .N - 1 ≡ v .hid → ⊥
-  open-last z = let no : ⊥ = omega (arith, z, whole, last) in no
-
-  pub for-omega : ForΩ m N e leaves work K v
-  for-omega =
-      record {
-        columns = sized .columns;
-        parties = sized .parties;
-        ex = ex;
-        seed = subst (λ (x : ℕ). part leaves (16 * (x - 1)) 16 ≡ v .seed (x - 1)) (sized .parties)
-            (S .seeds .at (K .N - 1) (omega (arith, last)) open-last);
-        sN = λ k h.
-            sym (s-last K v k (K .N - 1) last)
-            ∙ (sym (S .ss .at k (K .N - 1) (omega (arith, sized .columns)) (omega (arith, last)) open-last)
-            ∙ ap₂ (λ (x y : ℕ). getD work (placeOf x (y - 1) (2 * x + k)) 0) (sized .columns) (sized .parties));
-      }
-
-  here : (P : ℕ → ℕ → ℕ → Type 0) → P (K .m) (K .N) (v .hid) → P m N N
-  here P h =
-      subst (λ (x : ℕ). P x N N) (sized .columns) (subst (λ (x : ℕ). P (K .m) x N) (sized .parties) (subst (λ (x : ℕ). P (K .m) (K .N) x) (whole ∙ sized .parties) h))
-
-  pub for-pi : (given : List ℕ) → ForΠ q m N N e given work K v
-  for-pi given =
-      record {
-        sized = sized;
-        ex = ex;
-        hidden = whole ∙ sized .parties;
-        αh = λ h k y. absurd (omega arith);
-        bs = here (λ x y z. Holds x y z 0 work (b K v)) (S .bs);
-        ss = here (λ x y z. Holds x y z (2 * x) work (s K v)) (S .ss);
-      }
-
-pub omega-of : {q m N D e : ℕ} {master secret leaves work r : List ℕ} → 1 ≤ N → Dealt q m N D master secret leaves work
-    → ((K : Key) (v : View) → ForΩ m N e leaves work K v → r ≡ sha256 (Ωin K v)) → OmegaOf q m N D e master secret r
-unfolding dealt
-omega-of {e} {master} {secret} some so f =
-    record { is = λ K sized deep. f K (dealt K e master (λ k. getD secret k 0)) (for-omega K (dealt K e master (λ k. getD secret k 0)) sized some refl refl (so .shown K e sized deep)) }
-
-pub pi-of : {q m N D e : ℕ} {master secret κ leaves work r : List ℕ} (given : List ℕ) → 1 ≤ N → Dealt q m N D master secret leaves work
-    → ((K : Key) (v : View) → ForΠ q m N N e given work K v → r ≡ sha256 (Πin K v κ)) → PiOf q m N D e master secret κ r
-unfolding dealt
-pi-of {e} {master} {secret} given some so f =
-    record { is = λ K sized deep. f K (dealt K e master (λ k. getD secret k 0)) (for-pi K (dealt K e master (λ k. getD secret k 0)) sized some refl refl (so .shown K e sized deep) given) }
-
--- Ω and Π go to their place
-pub kept-none : {q m N D x at : ℕ} {E seeds secret κ o p : List ℕ} → opened E x ≡ true → KeptPuts q m N D x at at E seeds secret κ o o p p
-kept-none {x} {at} {E} {o} {p} e =
-    record { to-is = rw e (omega arith); Ω = λ K sized deep. rw e (puts-none at o); Π = λ K sized deep. rw e (puts-none at p) }
-
-pub kept-some : {q m N D x at : ℕ} {E seeds secret κ o p a b : List ℕ} → opened E x ≡ false → length a ≡ 32 → length b ≡ 32
-    → OmegaOf q m N D x (take (16 * x + 16 - 16 * x) (drop (16 * x) seeds)) secret a
-    → PiOf q m N D x (take (16 * x + 16 - 16 * x) (drop (16 * x) seeds)) secret κ b
-    → {b' : List ℕ} → b' ≡ b
-    → KeptPuts q m N D x at (at + 32) E seeds secret κ o (take at o ++ (a ++ drop (at + 32 - at) (drop at o))) p (take at p ++ (b' ++ drop (at + 32 - at) (drop at p)))
-unfolding proverView
-kept-some {q} {m} {N} {D} {x} {at} {E} {seeds} {secret} {κ} {o} {p} {a} {b} e la lb ω π w =
-    let z : 16 * x + 16 - 16 * x ≡ 16 = omega arith in
-    record {
-      to-is = rw e refl;
-      Ω = λ K sized deep. rw (e, ← (rw z at ω) .is K sized deep) (puts-some at 32 a o la);
-      Π = λ K sized deep. rw (w, e, ← (rw z at π) .is K sized deep) (puts-some at 32 b p lb);
-    }
-
-pub kept-start : {q m N D : ℕ} {E seeds secret κ : List ℕ} (o p : List ℕ) → KeptBuilt q m N D 0 0 E seeds secret κ o o p p
-kept-start o p = record { Ω = λ K sized deep. built-none _ o; Π = λ K sized deep. built-none _ p }
-
-pub kept-more : {q m N D x at to : ℕ} {E seeds secret κ o₀ o p₀ p o' p' : List ℕ} → KeptBuilt q m N D x at E seeds secret κ o₀ o p₀ p
-    → KeptPuts q m N D x at to E seeds secret κ o o' p p' → KeptBuilt q m N D (x + 1) to E seeds secret κ o₀ o' p₀ p'
-kept-more a b =
-    record { Ω = λ K sized deep. built-more (a .Ω K sized deep) (b .Ω K sized deep) refl; Π = λ K sized deep. built-more (a .Π K sized deep) (b .Π K sized deep) refl }
-
-pub kept-all : {q m N D x M at : ℕ} {E seeds secret κ o₀ o p₀ p : List ℕ} → KeptBuilt q m N D x at E seeds secret κ o₀ o p₀ p → x ≡ M
-    → length o₀ ≤ at → length p₀ ≤ at → KeptAll q m N D M E seeds secret κ o p
-kept-all a e h k =
-    record { Ω = λ K sized deep. built-all (a .Ω K sized deep) e h; Π = λ K sized deep. built-all (a .Π K sized deep) e k }
-
-pub kept-part : {q m N D M : ℕ} {E seeds secret κ o p : List ℕ} {s₀ s : Sha} {r : List ℕ} → KeptAll q m N D M E seeds secret κ o p
-    → Begun 5 0 0 s₀ → Fed s₀ p s → ((d : List ℕ) → Stands s d → r ≡ sha256 d) → KeptPart q m N D M E seeds secret κ o r
-unfolding hπin kept
-kept-part {M} {E} {seeds} {secret} {κ} a begun fed f =
-    record {
-      Ω = a .Ω;
-      hπ = λ K sized deep eM.
-          f _ (begun .stands _ _ fed)
-          ∙ ap (λ x. sha256 (input 5 0 0 x))
-          (a .Π K sized deep ∙ ap (λ n. cat n (λ e. pick (opened E e) [] (sha256 (Πin K (proverView K seeds secret e) κ)))) (sym eM));
-    }
-
 -- ---- messages 3 and 5: the verdicts
 pub inputs-of3 : (K : Key) (seeds secret E κ : List ℕ) → Clean (checks3 K seeds secret E κ) → Inputs K seeds secret E κ
 unfolding checks3 statementChecks
@@ -520,19 +398,6 @@ pub two-parts : (out a b : List ℕ) (mid n : ℕ) → length a ≡ mid → leng
 two-parts out a b mid n h k =
     rw (take-at a (drop mid out) mid h, drop-at a (drop mid out) mid h, drop-of-length-le (drop mid out) {i = n} k, append-nil) refl
 
-pub rest-of : {q m N D M : ℕ} {E seeds secret κ a b h : List ℕ} → KeptPart q m N D M E seeds secret κ a h → b ≡ h → Rest q m N D M E seeds secret κ (a ++ b)
-rest-of k e = record { is = λ K sized deep eM. ap₂ (λ x y. x ++ y) (k .Ω K sized deep) (e ∙ k .hπ K sized deep eM) }
-
-pub message3-of : {q m N D M : ℕ} {E seeds secret κ a b : List ℕ} (K : Key) → Rest q m N D M E seeds secret κ b → Sized q m N K → depth K ≡ D → K .M ≡ M
-    → a ≡ cat M (λ e. pick (opened E e) (part seeds (16 * e) 16) []) → a ++ b ≡ message3 K seeds secret E κ
-unfolding message3 kept
-message3-of {M} {E} {seeds} {secret} {κ} {a} {b} K r sized deep eM ea =
-    ap₂ (λ x y. x ++ y) ea (r .is K sized deep eM)
-    ∙ rw (← eM)
-    (sym
-    (append-assoc (cat (K .M) (λ e. pick (opened E e) (part seeds (16 * e) 16) []))
-    (cat (K .M) (λ e. pick (opened E e) [] (sha256 (Ωin K (proverView K seeds secret e))))) (sha256 (hπin K (proverView K seeds secret) E κ))))
-
 pub opened-room : (K : Key) (E : List ℕ) (M τ w : ℕ) → goodE K E ≡ true → M ≡ K .M → τ ≡ K .τ → w ≡ 16 * τ → w ≡ 16 * count M (opened E)
 opened-room K E M τ w g eM eτ h = h ∙ ap (λ x. 16 * x) (eτ ∙ sym (opened-count K E g) ∙ ap (λ n. count n (opened E)) (sym eM))
 
@@ -569,12 +434,181 @@ later-part out a mid h =
     let n : length (drop mid out) ≤ length (a ++ drop mid out) - mid = omega (arith, length-append a (drop mid out)) in
     rw (drop-at a (drop mid out) mid h, take-all (length (a ++ drop mid out) - mid) (drop mid out) n) (length-drop mid out)
 
-pub rest-write : {q m N D M : ℕ} {E seeds secret κ : List ℕ} (out a b h : List ℕ) (mid : ℕ) → length a ≡ mid
-    → KeptPart q m N D M E seeds secret κ a h → b ≡ h
-    → Rest q m N D M E seeds secret κ (take mid (a ++ drop mid out) ++ (b ++ drop (length (a ++ drop mid out) - mid) (drop mid (a ++ drop mid out))))
-rest-write out a b h mid l r e = rw (both-parts out a b mid l) (rest-of r e)
+-- ---- message 5: the verdict
+pub numbered5 : (K : Key) (seeds secret E κ L : List ℕ) → Numbered (checks5 K seeds secret E κ L)
+unfolding checks5 statementChecks
+numbered5 K seeds secret E κ L = (omega arith, (omega arith, (omega arith, (omega arith, tt))))
 
-pub write-3 : {q m N D M : ℕ} {E seeds secret κ : List ℕ} (K : Key) (out a b : List ℕ) (mid : ℕ) → length a ≡ mid
-    → Rest q m N D M E seeds secret κ b → Sized q m N K → depth K ≡ D → K .M ≡ M → a ≡ cat M (λ e. pick (opened E e) (part seeds (16 * e) 16) [])
-    → take mid (a ++ drop mid out) ++ (b ++ drop (length (a ++ drop mid out) - mid) (drop mid (a ++ drop mid out))) ≡ message3 K seeds secret E κ
-write-3 K out a b mid l r sized deep eM ea = both-parts out a b mid l ∙ message3-of K r sized deep eM ea
+pub accepted5-of : (K : Key) (seeds secret E κ L : List ℕ) {n : ℕ} → n ≡ numberOf (first (checks5 K seeds secret E κ L)) → n ≡ 0
+    → first (checks5 K seeds secret E κ L) ≡ accepted
+accepted5-of K seeds secret E κ L e z = none-applies (checks5 K seeds secret E κ L) (numbered5 K seeds secret E κ L) (sym e ∙ z)
+
+pub inputs-of5 : (K : Key) (seeds secret E κ L : List ℕ) → Clean (checks5 K seeds secret E κ L) → (Inputs K seeds secret E κ) × (length L ≡ 16)
+unfolding checks5 statementChecks
+inputs-of5 K seeds secret E κ L c =
+    let h = holds-each _ (not-false _ (c .0)) in (
+      record {
+        seeds-long = eqb-true (length seeds) (16 * K .M) (h .0);
+        secret-long = eqb-true (length secret) (K .m) (h .1 .0);
+        κ-long = eqb-true (length κ) 16 (h .1 .1 .0);
+        good = not-false _ (c .1 .0);
+      },
+      eqb-true (length L) 16 (h .1 .1 .1 .0),
+    )
+
+module _ (key seeds secret E κ L : List ℕ) (size from work entry : ℕ) where
+  abbrev lent5 : List Check
+  lent5 = lentChecks (keyOf key) (message5 (keyOf key) seeds secret E κ L) size from work entry
+
+  pub refusal5-key : {n : ℕ} → n ≡ numberOf (first (keyChecks (keyOf key) key)) → (n ≡ 0 → ⊥) → n ≡ numberOf (verdict5 key seeds secret E κ L size from work entry)
+  unfolding verdict5
+  refusal5-key = key-refused (keyChecks (keyOf key) key) (checks5 (keyOf key) seeds secret E κ L) lent5
+
+  pub refusal5-inputs : {n : ℕ} → first (keyChecks (keyOf key) key) ≡ accepted → n ≡ numberOf (first (checks5 (keyOf key) seeds secret E κ L)) → (n ≡ 0 → ⊥)
+      → n ≡ numberOf (verdict5 key seeds secret E κ L size from work entry)
+  unfolding verdict5
+  refusal5-inputs = input-refused (keyChecks (keyOf key) key) (checks5 (keyOf key) seeds secret E κ L) lent5
+
+  pub refusal5-lent : {n i : ℕ} → first (keyChecks (keyOf key) key) ≡ accepted → i ≡ numberOf (first (checks5 (keyOf key) seeds secret E κ L)) → i ≡ 0
+      → (length (message5 (keyOf key) seeds secret E κ L) ≡ 32 → n ≡ numberOf (first lent5)) → n ≡ numberOf (verdict5 key seeds secret E κ L size from work entry)
+  unfolding verdict5
+  refusal5-lent k e z f =
+      lent-refused (keyChecks (keyOf key) key) (checks5 (keyOf key) seeds secret E κ L) lent5 k (accepted5-of (keyOf key) seeds secret E κ L e z)
+      (f (message5-length (keyOf key) seeds secret E κ L))
+
+  pub accepted5 : {n : ℕ} → n ≡ numberOf (verdict5 key seeds secret E κ L size from work entry) → n ≡ 0 → verdict5 key seeds secret E κ L size from work entry ≡ accepted
+  unfolding verdict5
+  accepted5 e z = accepted-all (keyOf key) key (checks5 (keyOf key) seeds secret E κ L) (message5 (keyOf key) seeds secret E κ L) size from work entry (numbered5 (keyOf key) seeds secret E κ L) (sym e ∙ z)
+
+  pub passed5 : verdict5 key seeds secret E κ L size from work entry ≡ accepted
+      → Passed (keyOf key) key (checks5 (keyOf key) seeds secret E κ L) (message5 (keyOf key) seeds secret E κ L) size from work entry
+  unfolding verdict5
+  passed5 = passed (keyOf key) key (checks5 (keyOf key) seeds secret E κ L) (message5 (keyOf key) seeds secret E κ L) size from work entry
+
+-- what the writer of message 5 is told
+pub record Ready5 (key seeds secret E κ L : List ℕ) (size from work entry : ℕ) : Type 0 where
+  pub passes : verdict5 key seeds secret E κ L size from work entry ≡ accepted
+  pub of-key : first (keyChecks (keyOf key) key) ≡ accepted
+  pub inputs : Inputs (keyOf key) seeds secret E κ
+  pub seed-long : length L ≡ 16
+  pub shares : 4 * keyOf key .m * keyOf key .N ≤ work
+  pub rows : entries (keyOf key) ≤ entry
+  pub long : length (message5 (keyOf key) seeds secret E κ L) ≡ 32
+  pub ends : from + 32 ≤ size
+
+pub ready5 : (key seeds secret E κ L : List ℕ) (size from work entry : ℕ) {n : ℕ} → n ≡ numberOf (verdict5 key seeds secret E κ L size from work entry) → n ≡ 0
+    → Ready5 key seeds secret E κ L size from work entry
+ready5 key seeds secret E κ L size from work entry e z =
+    let a = accepted5 key seeds secret E κ L size from work entry e z in
+    let p = passed5 key seeds secret E κ L size from work entry a in
+    let i = inputs-of5 (keyOf key) seeds secret E κ L (p .inputs) in
+    let l = message5-length (keyOf key) seeds secret E κ L in
+    record { passes = a; of-key = p .of-key; inputs = i .0; seed-long = i .1; shares = p .room .shares; rows = p .room .rows; long = l; ends = end-within (p .room) l }
+
+-- ---- message 7: the verdict
+module _ (K : Key) (seeds secret E κ L hidden : List ℕ) where
+  pub inputs7-5 : {n : ℕ} → n ≡ numberOf (first (checks5 K seeds secret E κ L)) → (n ≡ 0 → ⊥) → n ≡ numberOf (first (checks7 K seeds secret E κ L hidden))
+  unfolding checks7
+  inputs7-5 = of-left (checks5 K seeds secret E κ L) (not (goodHidden K hidden) ⇒ 10 ∷ [])
+
+  pub inputs7-10 : {i : ℕ} → i ≡ numberOf (first (checks5 K seeds secret E κ L)) → i ≡ 0 → goodHidden K hidden ≡ false
+      → 10 ≡ numberOf (first (checks7 K seeds secret E κ L hidden))
+  unfolding checks7 first
+  inputs7-10 e z h = of-right (checks5 K seeds secret E κ L) (not (goodHidden K hidden) ⇒ 10 ∷ []) (accepted5-of K seeds secret E κ L e z) (rw h)
+
+  pub inputs7-0 : {i : ℕ} → i ≡ numberOf (first (checks5 K seeds secret E κ L)) → i ≡ 0 → goodHidden K hidden ≡ true
+      → 0 ≡ numberOf (first (checks7 K seeds secret E κ L hidden))
+  unfolding checks7 first
+  inputs7-0 e z h = of-right (checks5 K seeds secret E κ L) (not (goodHidden K hidden) ⇒ 10 ∷ []) (accepted5-of K seeds secret E κ L e z) (rw h)
+
+  pub numbered7 : Numbered (checks7 K seeds secret E κ L hidden)
+  unfolding checks7
+  numbered7 = numbered-append (checks5 K seeds secret E κ L) _ (numbered5 K seeds secret E κ L) (omega arith, tt)
+
+  pub accepted7-of : {n : ℕ} → n ≡ numberOf (first (checks7 K seeds secret E κ L hidden)) → n ≡ 0 → first (checks7 K seeds secret E κ L hidden) ≡ accepted
+  accepted7-of e z = none-applies (checks7 K seeds secret E κ L hidden) numbered7 (sym e ∙ z)
+
+  pub inputs-of7 : Clean (checks7 K seeds secret E κ L hidden) → (Inputs K seeds secret E κ) × (length L ≡ 16) × (goodHidden K hidden ≡ true)
+  unfolding checks7
+  inputs-of7 c =
+      let i = inputs-of5 K seeds secret E κ L (clean-left (checks5 K seeds secret E κ L) _ c) in
+      (i .0, i .1, not-false _ (clean-right (checks5 K seeds secret E κ L) (not (goodHidden K hidden) ⇒ 10 ∷ []) c .0))
+
+-- the length of message 7 as code computes it
+pub replies-are : (K : Key) (E hidden : List ℕ) (n : ℕ) → sum n (replySize K (partsWith E hidden [])) ≡ repliesBytes K E hidden n
+unfolding replySize givenCount hidden replyBytes repliesBytes
+replies-are K E hidden n = refl
+
+pub count-7 : (k : Numbers) (K : Key) (seeds secret E κ L hidden : List ℕ) → Of k K → goodE K E ≡ true → goodHidden K hidden ≡ true → length κ ≡ 16
+    → length (message7 K seeds secret E κ L hidden) ≡ 16 + sum (k .executions) (replySize (keyWith k []) (partsWith E hidden []))
+count-7 k K seeds secret E κ L hidden of gE gH long =
+    message7-length K seeds secret E L hidden gE gH κ long
+    ∙ (ap (λ (x : ℕ). 16 + x) (sym (replies-are K E hidden (K .M))) ∙ sym (length-of k K of (partsWith E hidden []) E hidden refl refl))
+
+module _ (key seeds secret E κ L hidden : List ℕ) (size from work entry : ℕ) where
+  abbrev lent7 : List Check
+  lent7 = lentChecks (keyOf key) (message7 (keyOf key) seeds secret E κ L hidden) size from work entry
+
+  pub refusal7-key : {n : ℕ} → n ≡ numberOf (first (keyChecks (keyOf key) key)) → (n ≡ 0 → ⊥) → n ≡ numberOf (verdict7 key seeds secret E κ L hidden size from work entry)
+  unfolding verdict7
+  refusal7-key = key-refused (keyChecks (keyOf key) key) (checks7 (keyOf key) seeds secret E κ L hidden) lent7
+
+  pub refusal7-inputs : {n : ℕ} → first (keyChecks (keyOf key) key) ≡ accepted → n ≡ numberOf (first (checks7 (keyOf key) seeds secret E κ L hidden)) → (n ≡ 0 → ⊥)
+      → n ≡ numberOf (verdict7 key seeds secret E κ L hidden size from work entry)
+  unfolding verdict7
+  refusal7-inputs = input-refused (keyChecks (keyOf key) key) (checks7 (keyOf key) seeds secret E κ L hidden) lent7
+
+  -- the lent lists' test, of a message of `count` bytes
+  pub refusal7-lent : {n i count : ℕ} {k : Numbers} → first (keyChecks (keyOf key) key) ≡ accepted
+      → i ≡ numberOf (first (checks7 (keyOf key) seeds secret E κ L hidden)) → i ≡ 0 → Of k (keyOf key)
+      → count ≡ 16 + sum (k .executions) (replySize (keyWith k []) (partsWith E hidden []))
+      → (length (message7 (keyOf key) seeds secret E κ L hidden) ≡ count → n ≡ numberOf (first lent7))
+      → n ≡ numberOf (verdict7 key seeds secret E κ L hidden size from work entry)
+  unfolding verdict7
+  refusal7-lent {k = k} a e z of ec f =
+      let c = accepted7-of (keyOf key) seeds secret E κ L hidden e z in
+      let g = inputs-of7 (keyOf key) seeds secret E κ L hidden (clean _ c) in
+      lent-refused (keyChecks (keyOf key) key) (checks7 (keyOf key) seeds secret E κ L hidden) lent7 a c
+      (f (count-7 k (keyOf key) seeds secret E κ L hidden of (g .0 .good) (g .2) (g .0 .κ-long) ∙ sym ec))
+
+  pub accepted7 : {n : ℕ} → n ≡ numberOf (verdict7 key seeds secret E κ L hidden size from work entry) → n ≡ 0
+      → verdict7 key seeds secret E κ L hidden size from work entry ≡ accepted
+  unfolding verdict7
+  accepted7 e z = accepted-all (keyOf key) key (checks7 (keyOf key) seeds secret E κ L hidden) (message7 (keyOf key) seeds secret E κ L hidden) size from work entry (numbered7 (keyOf key) seeds secret E κ L hidden) (sym e ∙ z)
+
+  pub passed7 : verdict7 key seeds secret E κ L hidden size from work entry ≡ accepted
+      → Passed (keyOf key) key (checks7 (keyOf key) seeds secret E κ L hidden) (message7 (keyOf key) seeds secret E κ L hidden) size from work entry
+  unfolding verdict7
+  passed7 = passed (keyOf key) key (checks7 (keyOf key) seeds secret E κ L hidden) (message7 (keyOf key) seeds secret E κ L hidden) size from work entry
+
+-- what the writer of message 7 is told
+pub record Ready7 (key seeds secret E κ L hidden : List ℕ) (size from work entry count : ℕ) : Type 0 where
+  pub passes : verdict7 key seeds secret E κ L hidden size from work entry ≡ accepted
+  pub of-key : first (keyChecks (keyOf key) key) ≡ accepted
+  pub inputs : Inputs (keyOf key) seeds secret E κ
+  pub seed-long : length L ≡ 16
+  pub hides : goodHidden (keyOf key) hidden ≡ true
+  pub shares : 4 * keyOf key .m * keyOf key .N ≤ work
+  pub rows : entries (keyOf key) ≤ entry
+  pub long : length (message7 (keyOf key) seeds secret E κ L hidden) ≡ count
+  pub ends : from + count ≤ size
+
+pub ready7 : (key seeds secret E κ L hidden : List ℕ) (size from work entry : ℕ) {n count : ℕ} {k : Numbers}
+    → n ≡ numberOf (verdict7 key seeds secret E κ L hidden size from work entry) → n ≡ 0 → Of k (keyOf key)
+    → count ≡ 16 + sum (k .executions) (replySize (keyWith k []) (partsWith E hidden [])) → Ready7 key seeds secret E κ L hidden size from work entry count
+ready7 key seeds secret E κ L hidden size from work entry {n} {count} {k} e z of ec =
+    let a = accepted7 key seeds secret E κ L hidden size from work entry e z in
+    let p = passed7 key seeds secret E κ L hidden size from work entry a in
+    let i = inputs-of7 (keyOf key) seeds secret E κ L hidden (p .inputs) in
+    let l : length (message7 (keyOf key) seeds secret E κ L hidden) ≡ count = count-7 k (keyOf key) seeds secret E κ L hidden of (i .0 .good) (i .2) (i .0 .κ-long) ∙ sym ec in
+    record {
+      passes = a;
+      of-key = p .of-key;
+      inputs = i .0;
+      seed-long = i .1;
+      hides = i .2;
+      shares = p .room .shares;
+      rows = p .room .rows;
+      long = l;
+      ends = end-within (p .room) l;
+    }

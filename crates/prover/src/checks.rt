@@ -7,13 +7,15 @@ ghost use lib.ListN.{length};
 ghost use Rattle.lists.specs.Check.{first};
 ghost use Rattle.refusals.specs.Number.{numberOf};
 ghost use Rattle.protocol.specs.Key.{Key, keyOf};
-ghost use Rattle.protocol.specs.Prover.{checks1, checks3, checks5, statementChecks, lentChecks, verdict1, verdict3};
+ghost use Rattle.protocol.specs.Prover.{checks1, checks3, checks5, checks7, statementChecks, lentChecks, verdict1, verdict3, verdict5, verdict7};
 ghost use Rattle.key.specs.Numbers.{Read};
 ghost use Rattle.prover.specs.Parts.{SizedInputs};
+use forms::good_hidden;
 use forms::good_opened;
 use forms::is_binary;
 use forms::is_solution;
 use key::Numbers;
+use refusals::HIDDEN_LIST;
 use refusals::INPUT_LENGTH;
 use refusals::OPENED_LIST;
 use refusals::ROOM;
@@ -187,5 +189,85 @@ pub fn refusal_3(
         return of_inputs;
     }
     let count = size_3(k.opened, k.executions);
+    lent(k.n, k.m, k.parties, count, size, place, work, entries)
+}
+
+// The first number that applies to message 5, or 0.
+pub fn refusal_5(
+    key: &[u8],
+    seeds: &[u8],
+    secret: &[u8],
+    e: &[u8],
+    kappa: &[u8],
+    seed: &[u8],
+    size: usize,
+    place: usize,
+    work: usize,
+    entries: usize,
+) -> u32
+    ensures { λ r. ⌜ r ≡ numberOf (verdict5 (now (key .entry)) (now (seeds .entry)) (now (secret .entry)) (now (e .entry)) (now (kappa .entry)) (now (seed .entry)) size place work entries) ⌝ }
+{
+    let of_key = key::check(key);
+    if of_key != 0 {
+        return of_key;
+    }
+    let k = key::numbers_of(key);
+    let of_inputs = inputs_5(key, k, seeds, secret, e, kappa, seed);
+    if of_inputs != 0 {
+        return of_inputs;
+    }
+    lent(k.n, k.m, k.parties, 32, size, place, work, entries)
+}
+
+// 6 to 10 of message 7.
+pub fn inputs_7(
+    key: &[u8],
+    k: Numbers,
+    seeds: &[u8],
+    secret: &[u8],
+    e: &[u8],
+    kappa: &[u8],
+    seed: &[u8],
+    hidden: &[u8],
+) -> u32
+    requires { ⌜ Read (now key) k ⌝ }
+    ensures { λ r. ⌜ r ≡ numberOf (first (checks7 (keyOf (now (key .entry))) (now (seeds .entry)) (now (secret .entry)) (now (e .entry)) (now (kappa .entry)) (now (seed .entry)) (now (hidden .entry)))) ⌝ }
+{
+    let others = inputs_5(key, k, seeds, secret, e, kappa, seed);
+    if others != 0 {
+        return others;
+    }
+    if !good_hidden(hidden, k) {
+        return HIDDEN_LIST;
+    }
+    0
+}
+
+// The first number that applies to message 7, or 0.
+pub fn refusal_7(
+    key: &[u8],
+    seeds: &[u8],
+    secret: &[u8],
+    e: &[u8],
+    kappa: &[u8],
+    seed: &[u8],
+    hidden: &[u8],
+    size: usize,
+    place: usize,
+    work: usize,
+    entries: usize,
+) -> u32
+    ensures { λ r. ⌜ r ≡ numberOf (verdict7 (now (key .entry)) (now (seeds .entry)) (now (secret .entry)) (now (e .entry)) (now (kappa .entry)) (now (seed .entry)) (now (hidden .entry)) size place work entries) ⌝ }
+{
+    let of_key = key::check(key);
+    if of_key != 0 {
+        return of_key;
+    }
+    let k = key::numbers_of(key);
+    let of_inputs = inputs_7(key, k, seeds, secret, e, kappa, seed, hidden);
+    if of_inputs != 0 {
+        return of_inputs;
+    }
+    let count = transcript::replies_length(k, e, hidden);
     lent(k.n, k.m, k.parties, count, size, place, work, entries)
 }

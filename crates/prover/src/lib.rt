@@ -1,8 +1,6 @@
-// The prover's four messages (document 01, Shares and messages, level 1).
+// What the prover's calls answer and refuse (document 01, Shares and messages, level 1).
 
 pub mod checks;
-pub mod first;
-pub mod third;
 
 // The length of the message that was written, or the number of the refusal.
 pub enum Answer {
