@@ -1,0 +1,3 @@
+// What the prover answers of a kept execution: its outputs, and its reply in part 7.
+
+pub mod dealt;
