@@ -19,16 +19,16 @@ use Rattle.numbers.specs.Mod.{sub, sub-lt, sub-is, sub-cong, cong-trans, cong-s
 use Rattle.numbers.specs.Sum.{sum, sum-ext, sum-same, sum-cong, sum-add, sum-mul}
 use Rattle.tree.specs.Tree.{opening}
 use Rattle.protocol.specs.Key.{Key, depth}
-use Rattle.protocol.specs.Shares.{View, b, d, s, α, αsum, o, Γ}
+use Rattle.protocol.specs.Shares.{View, b, d, s, α, αsum, o, Γ, dealt}
 use Rattle.protocol.specs.Prover.{reply}
 use Rattle.execution.specs.Shown.{Sized, Holds, Seeded, placeOf}
-use Rattle.execution.specs.Prepared.{lastCount}
+use Rattle.execution.specs.Prepared.{Dealt, lastCount}
 use Rattle.execution.proofs.Laws.{inside}
 use Rattle.views.specs.Seen.{ForH}
 use Rattle.views.proofs.Laws.{words-part, gamma-is}
 use Rattle.outputs.specs.Stated.{Stated}
 use Rattle.response.specs.Held.{Held, alphaSum}
-use Rattle.response.specs.Replies.{alphaShare, lastNumbers, numbersOf, replyOf}
+use Rattle.response.specs.Replies.{alphaShare, lastNumbers, numbersOf, replyOf, DealtReply}
 
 -- a sum of differences is the difference of the sums
 pub sum-sub : {q : ℕ} → 0 < q → (n : ℕ) (f g : ℕ → ℕ) → sum n (λ i. sub q (f i) (g i)) % q ≡ sub q (sum n f) (sum n g)
@@ -255,3 +255,21 @@ module _ {q n m N e : ℕ} {entries leaves work : List ℕ} {K : Key} {v : View}
       ∙ (append-assoc (opening (depth K) master h ++ Γ K v h) (nums (K .m) (λ k. α K v k h)) (le4 (o K v L h) ++ pick (eqb (suc h) (K .N)) [] (nums (K .m) (v .dN) ++ nums (K .m) (v .sN)))
       ∙ ap (λ x. opening (depth K) master h ++ Γ K v h ++ x)
       (sym (append-assoc (nums (K .m) (λ k. α K v k h)) (le4 (o K v L h)) (pick (eqb (suc h) (K .N)) [] (nums (K .m) (v .dN) ++ nums (K .m) (v .sN))))))))
+
+-- what was dealt is held
+pub dealt-held : {q n m N D e : ℕ} {master secret leaves work entries : List ℕ} → Dealt q m N D master secret leaves work → (K : Key) → Sized q m N K → K .n ≡ n
+    → ((j : ℕ) → j < n * (m + 1) → K .entry j ≡ getD entries j 0) → depth K ≡ D
+    → Held q n m N e entries work K (dealt K e master (λ k. getD secret k 0))
+unfolding dealt
+dealt-held {e} so K sized rows entry deep =
+    let S = so .shown K e sized deep in
+    record { sized = sized; rows = rows; entry = entry; ex = refl; hidden = refl; oh = refl; bs = S .bs; ds = S .ds; ss = S .ss }
+
+pub dealt-reply-is : {q n m N D e h : ℕ} {master secret leaves work entries r L : List ℕ} → Dealt q m N D master secret leaves work
+    → ((K : Key) (v : View) → depth K ≡ D → Held q n m N e entries work K v → Seeded K v leaves → r ≡ reply K v master L h)
+    → DealtReply q n m N D e h master secret L entries r
+dealt-reply-is {e} {master} {secret} so f =
+    record {
+      is = λ K sized rows entry deep.
+          f K (dealt K e master (λ k. getD secret k 0)) deep (dealt-held so K sized rows entry deep) (so .shown K e sized deep .seeds);
+    }

@@ -13,9 +13,10 @@ ghost use Rattle.execution.specs.Shown.{Limits, Seeded};
 ghost use Rattle.execution.specs.Lists.{Reduced};
 ghost use Rattle.execution.specs.Prepared.{lastCount};
 ghost use Rattle.response.specs.Held.{Held};
-ghost use Rattle.response.specs.Replies.{alphaShare, lastNumbers, numbersOf, replyOf};
+ghost use Rattle.response.specs.Replies.{alphaShare, lastNumbers, numbersOf, replyOf, DealtReply};
 use crate::dealt;
 use bytes4::put32;
+use execution::prepare;
 use views::parties;
 
 // α(k, i) = s(k, i) - b(k, i).
@@ -226,6 +227,59 @@ pub fn reply(
         hidden,
         o,
         master,
+        leaves,
+        work,
+        out,
+    );
+}
+
+// The reply of an execution that is dealt from its master seed and the secret, into a list of its length. The seeds and shares go to
+// `leaves` and `work`.
+pub fn dealt_reply(
+    q: u32,
+    n: usize,
+    m: usize,
+    parties: usize,
+    depth: usize,
+    execution: usize,
+    hidden: usize,
+    master: &[u8],
+    secret: &[u8],
+    seed: &[u8],
+    entries: &[u32],
+    leaves: &mut [u8],
+    work: &mut [u32],
+    out: &mut [u8],
+)
+    requires { ⌜ Limits q m parties ⌝ }
+    requires { ⌜ Member parties Ns ⌝ }
+    requires { ⌜ n ≤ 32 ⌝ }
+    requires { ⌜ execution < 32 ⌝ }
+    requires { ⌜ (depth ≤ 5) × (2 ^ depth ≡ parties) ⌝ }
+    requires { ⌜ hidden < parties ⌝ }
+    requires { ⌜ length (now master) ≡ 16 ⌝ }
+    requires { ⌜ length (now secret) ≡ m ⌝ }
+    requires { ⌜ length (now seed) ≡ 16 ⌝ }
+    requires { ⌜ n * (m + 1) ≤ length (now entries) ⌝ }
+    requires { ⌜ length (now leaves) ≡ 16 * parties ⌝ }
+    requires { ⌜ 3 * m * parties ≤ length (now work) ⌝ }
+    requires { ⌜ length (now out) ≡ 16 * depth + 32 + 4 * (m + 1 + lastCount m parties hidden) ⌝ }
+    ensures { λ _. ⌜ DealtReply q n m parties depth execution hidden (now (master .entry)) (now (secret .entry)) (now (seed .entry)) (now (entries .entry)) (now (out .exit)) ⌝ }
+    ensures { λ _. ⌜ length (now (leaves .exit)) ≡ length (now (leaves .entry)) ⌝ }
+    ensures { λ _. ⌜ length (now (work .exit)) ≡ length (now (work .entry)) ⌝ }
+{
+    prepare::deal(q, m, parties, depth, master, secret, leaves, work);
+    reply(
+        q,
+        n,
+        m,
+        parties,
+        depth,
+        execution,
+        hidden,
+        master,
+        seed,
+        entries,
         leaves,
         work,
         out,
