@@ -1,21 +1,38 @@
-# make test     the gate: make tests, then rt ci
-# make tests    the second implementation on the vectors, the proved library beside both, the claims page
+# make test         the gate: make tests, then rt ci
+# make tests        the second implementation on the vectors, the proved library beside both, the claims page
 # make definitions  the definitions of specs/, as they stand there, on the vectors
-# make compare  the judge beside the second implementation's on a million inputs
-# make bench    our time over that of C, in one run
-# make clean    removes what was built
+# make shared-vectors VECTORS=folder   all vector files of a folder through the library's C calls
+# make compare      the library's C calls beside the second implementation on more than a million inputs
+# make campaign     the same under the AddressSanitizer, SAMPLES=number of keys to start from
+# make weak         the pair reader on collisions: a copy of the library whose hash is cut to a few values
+# make bench        our time over that of C, in one run; the stack of each call
+# make lib          library and header in dist/
+# make demo         an example of firmware: a badge, a door and an auditor
+# make clean        removes what was built
 CC = gcc
 CFLAGS = -std=c11 -Wall -Wextra -Wpedantic -Iinclude -Ireference -Itests/c
+FLAGS_O2 = -O2
+FLAGS_O3 = -O3
+FLAGS_sanitized = -O1 -g -fsanitize=address,undefined -fno-sanitize-recover=all
 BUILD = target/tests
+VECTORS = tests/vectors
+SAMPLES = 16000
+
+# Calls of include/badge.h that the library does not have yet; tests/c/standin.c stands in for them.
+MISSING = MESSAGES MESSAGES_LENT JUDGE_LENT PAIR PAIR_LENT
+
 REFERENCE = $(addprefix reference/,sha256.c aes128.c streams.c key.c tree.c execution.c transcript.c prover.c judge.c pair.c)
 HEADERS = $(wildcard include/*.h reference/*.h tests/c/*.h)
+LIBBADGE = target/staticlib/libbadge.a
+LIBPRIMITIVES = target/staticlib/libprimitives.a
 
-.PHONY: test tests claims reference definitions primitives judge program compare bench clean
+.PHONY: test tests claims reference definitions primitives calls shared-vectors beside program compare campaign weak bench lib demo clean
+.SECONDARY:
 
 test:
 	./.ci/run
 
-tests: claims reference definitions primitives judge program
+tests: claims reference definitions primitives calls beside program
 
 claims:
 	python3 tools/check_claims.py
@@ -29,49 +46,109 @@ $(BUILD)/libreference.so: $(REFERENCE) $(HEADERS) | $(BUILD)
 definitions: $(BUILD)/libreference.so
 	python3 tools/definitions.py $(BUILD)/libreference.so
 
+$(BUILD):
+	mkdir -p $(BUILD)
+
+# The proved library, and variants of it for tests.
+
 target/staticlib/lib%.a: $(wildcard crates/*/src/*.rt) crates.txt
 	rt staticlib $* > target-$*.log 2>&1 || { cat target-$*.log; rm -f target-$*.log; exit 1; }
 	rm -f target-$*.log
 
-$(BUILD):
-	mkdir -p $(BUILD)
+target/variant/sanitized.a: $(LIBBADGE) tools/variant.py
+	python3 tools/variant.py badge $@ sanitized
 
-$(BUILD)/test_primitives: tests/c/test_primitives.c $(REFERENCE) $(HEADERS) target/staticlib/libprimitives.a | $(BUILD)
-	$(CC) $(CFLAGS) -O2 -o $@ tests/c/test_primitives.c $(REFERENCE) target/staticlib/libprimitives.a
+target/variant/weak%.a: $(LIBBADGE) tools/variant.py
+	python3 tools/variant.py badge $@ weak $*
+
+# The second implementation and the library's calls, for tests: each one object for each set of flags.
+
+$(BUILD)/%/reference.o: $(REFERENCE) reference/samples.c reference/calls.c $(HEADERS)
+	mkdir -p $(@D)
+	$(CC) $(CFLAGS) $(FLAGS_$*) -r -o $@ $(REFERENCE) reference/samples.c reference/calls.c
+
+$(BUILD)/%/badge.o: reference/calls.c tests/c/standin.c $(HEADERS) Makefile
+	mkdir -p $(@D)
+	$(CC) $(CFLAGS) $(FLAGS_$*) -DBADGE $(addprefix -DSTANDIN_,$(MISSING)) -r -o $@ reference/calls.c tests/c/standin.c
+	$(if $(MISSING),@echo "the second implementation stands in for: $(MISSING)")
+
+# The library on vectors.
+
+$(BUILD)/test_primitives: tests/c/test_primitives.c $(BUILD)/O2/reference.o $(LIBPRIMITIVES)
+	$(CC) $(CFLAGS) -O2 -o $@ $^
 
 primitives: $(BUILD)/test_primitives
-	python3 tests/streams.py | $(BUILD)/test_primitives
+	$(BUILD)/test_primitives
 
-$(BUILD)/bench_primitives_O%: tests/c/bench_primitives.c $(REFERENCE) $(HEADERS) target/staticlib/libprimitives.a | $(BUILD)
-	$(CC) $(CFLAGS) -O$* -o $@ tests/c/bench_primitives.c $(REFERENCE) target/staticlib/libprimitives.a
+COMMANDS = $(BUILD)/badge/refcli
+$(COMMANDS): reference/refcli.c $(BUILD)/O2/badge.o $(BUILD)/O2/reference.o $(LIBBADGE) $(LIBPRIMITIVES)
+	mkdir -p $(@D)
+	$(CC) $(CFLAGS) -O2 -DBADGE -o $@ $^
 
-$(BUILD)/judge_vectors: tests/c/judge_vectors.c include/badge.h target/staticlib/libbadge.a | $(BUILD)
-	$(CC) $(CFLAGS) -O2 -o $@ tests/c/judge_vectors.c target/staticlib/libbadge.a
+$(COMMANDS)_weak%: reference/refcli.c $(BUILD)/O2/badge.o $(BUILD)/O2/reference.o target/variant/weak%.a $(LIBPRIMITIVES)
+	mkdir -p $(@D)
+	$(CC) $(CFLAGS) -O2 -DBADGE -o $@ $^
 
-$(BUILD)/compare: reference/compare.c reference/samples.c $(REFERENCE) $(HEADERS) target/staticlib/libbadge.a | $(BUILD)
-	$(CC) $(CFLAGS) -O2 -DBADGE -o $@ reference/compare.c reference/samples.c $(REFERENCE) target/staticlib/libbadge.a
+calls: $(COMMANDS)
+	python3 reference/vectors.py --build $(<D) --calls $(filter-out %/weak_pair.jsonl,$(wildcard tests/vectors/*.jsonl))
 
-judge: $(BUILD)/judge_vectors $(BUILD)/compare
-	python3 tests/judge_lines.py | $(BUILD)/judge_vectors
-	$(BUILD)/compare 200
+weak: $(COMMANDS)_weak2 $(COMMANDS)_weak16
+	python3 reference/vectors.py --build $(<D) --calls $(VECTORS)/weak_pair.jsonl
 
-target/bin/verdict: target/staticlib/libbadge.a crates/verdict/src/main.rt
+shared-vectors: $(COMMANDS) $(COMMANDS)_weak2 $(COMMANDS)_weak16
+	python3 reference/vectors.py --build $(<D) --calls $(VECTORS)
+
+# The library beside the second implementation.
+
+$(BUILD)/O2/compare: reference/compare.c $(BUILD)/O2/badge.o $(BUILD)/O2/reference.o $(LIBBADGE)
+	$(CC) $(CFLAGS) $(FLAGS_O2) -DBADGE -o $@ $^
+
+$(BUILD)/sanitized/compare: reference/compare.c $(BUILD)/sanitized/badge.o $(BUILD)/sanitized/reference.o target/variant/sanitized.a
+	$(CC) $(CFLAGS) $(FLAGS_sanitized) -DBADGE -o $@ $^
+
+compare: $(BUILD)/O2/compare
+	$< $(SAMPLES)
+
+campaign: $(BUILD)/sanitized/compare
+	@for what in read write; do if $< overlong $$what > $(BUILD)/overlong.log 2>&1 || ! grep -q AddressSanitizer $(BUILD)/overlong.log; \
+	then echo "the sanitizer does not see a $$what past the end"; exit 1; fi; done
+	$< $(SAMPLES)
+
+beside: $(BUILD)/O2/compare
+	$< 200
+	$(MAKE) --no-print-directory campaign SAMPLES=100
+
+target/bin/verdict: $(LIBBADGE) crates/verdict/src/main.rt
 	rt check verdict > target/verdict.log 2>&1 || { cat target/verdict.log; exit 1; }
 	test -x $@ && touch $@
 
 program: target/bin/verdict
 	python3 tests/program.py target/bin/verdict
 
-compare: $(BUILD)/compare
-	$(BUILD)/compare 16000
+# Times.
 
-$(BUILD)/bench_judge: tests/c/bench_judge.c reference/samples.c $(REFERENCE) $(HEADERS) target/staticlib/libbadge.a | $(BUILD)
-	$(CC) $(CFLAGS) -O3 -pthread -o $@ tests/c/bench_judge.c reference/samples.c $(REFERENCE) target/staticlib/libbadge.a
+$(BUILD)/bench_primitives_O%: tests/c/bench_primitives.c $(BUILD)/O%/reference.o $(LIBPRIMITIVES)
+	$(CC) $(CFLAGS) -O$* -o $@ $^
 
-bench: $(BUILD)/bench_primitives_O2 $(BUILD)/bench_primitives_O3 $(BUILD)/bench_judge
+$(BUILD)/bench_calls: tests/c/bench_calls.c $(BUILD)/O3/badge.o $(BUILD)/O3/reference.o $(LIBBADGE)
+	$(CC) $(CFLAGS) -O3 -pthread -o $@ $^
+
+bench: $(BUILD)/bench_primitives_O2 $(BUILD)/bench_primitives_O3 $(BUILD)/bench_calls
 	$(BUILD)/bench_primitives_O2
 	$(BUILD)/bench_primitives_O3
-	$(BUILD)/bench_judge
+	$(BUILD)/bench_calls
+
+# What a buyer holds in hand.
+
+lib: $(LIBBADGE)
+	mkdir -p dist
+	cp $(LIBBADGE) include/badge.h dist/
+
+$(BUILD)/demo: examples/firmware.c lib $(if $(MISSING),$(BUILD)/O2/badge.o $(BUILD)/O2/reference.o) | $(BUILD)
+	$(CC) -std=c11 -Wall -Wextra -Wpedantic -O2 -Idist -o $@ $(filter %.c %.o,$^) dist/libbadge.a
+
+demo: $(BUILD)/demo
+	@$<
 
 clean:
-	rm -rf target reference/build
+	rm -rf target dist reference/build

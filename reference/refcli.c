@@ -1,9 +1,17 @@
-/* The second implementation behind a line-oriented command program.
+/* The second implementation behind a line-oriented command program; with BADGE defined, the library of badge.h and its streams.
  *
  * A line is a command and its arguments, byte lists in hex ("-" for an empty one), numbers in
  * decimal. Each line is answered by one line. Lent lists are allocated at the very length that is
  * asked for, and outputs are checked to be untouched where they must be. */
+#include "calls.h"
 #include "layers.h"
+
+#ifdef BADGE
+#include "primitives.h"
+#define CALLS badge_calls
+#else
+#define CALLS reference_calls
+#endif
 
 #include <stdio.h>
 #include <stdlib.h>
@@ -28,11 +36,6 @@ static void *allocate(size_t size)
         fail("no memory");
     return p;
 }
-
-struct list {
-    uint8_t *at;
-    size_t length;
-};
 
 static uint64_t number(int a)
 {
@@ -104,7 +107,186 @@ static void print_numbers(const uint32_t *list, size_t count)
         printf(j ? ",%u" : "%u", list[j]);
 }
 
-/* Primitives. */
+/* numbers seed first q count */
+static void run_numbers(void)
+{
+    struct list seed = bytes_of(1, 16);
+    size_t count = number(4);
+    uint32_t *out = allocate(4 * count);
+#ifdef BADGE
+    uint32_t refused = badge_numbers(seed.at, 16, number(2), (uint32_t)number(3), out, count);
+    if (refused)
+        printf("refused %u", refused);
+    else
+        print_numbers(out, count);
+#else
+    struct aes128 key;
+    aes128_expand(&key, seed.at);
+    stream_numbers(&key, number(2), (uint32_t)number(3), out, count);
+    print_numbers(out, count);
+#endif
+    free(out);
+    free(seed.at);
+}
+
+/* The calls. */
+
+static size_t length_or(int a, size_t enough)
+{
+    return a < arguments && strcmp(argument[a], "-") != 0 ? number(a) : enough;
+}
+
+/* Work lists of the lengths at arguments a and a + 1; "-" is the length that the key asks for. */
+static struct lent lend(int a, struct list key_list)
+{
+    struct key k;
+    int read = read_key(&k, key_list.at, key_list.length) == 0;
+    struct lent lent = {.work_len = length_or(a, read ? work_count(&k) : MAX_WORK),
+                        .at_len = length_or(a + 1, read ? entry_count(&k) : MAX_AT)};
+    lent.work = allocate(4 * lent.work_len);
+    lent.at = allocate(4 * lent.at_len);
+    memset(lent.work, FILL, 4 * lent.work_len);
+    memset(lent.at, FILL, 4 * lent.at_len);
+    return lent;
+}
+
+static void give_back(struct lent lent)
+{
+    free(lent.work);
+    free(lent.at);
+}
+
+/* Where no lengths of work lists are asked for, the call with lists of its own must say the same. */
+static int both_calls(int a) { return length_or(a, SIZE_MAX) == SIZE_MAX && length_or(a + 1, SIZE_MAX) == SIZE_MAX; }
+
+static void check_same(struct list one, struct list two)
+{
+    if (memcmp(one.at, two.at, one.length) != 0)
+        fail("the call with lent lists and that without wrote different bytes");
+}
+
+static void check_answers(int64_t one, int64_t two)
+{
+    if (one != two)
+        fail("the call with lent lists and that without answer differently");
+}
+
+/* message number key seeds secret E K L hidden out_len place [work_len at_len] */
+static void run_message(void)
+{
+    struct list in[INPUTS];
+    for (int j = 0; j < INPUTS; j++)
+        in[j] = bytes(2 + j);
+    int which = (int)number(1);
+    uint64_t place = number(10);
+    struct list out = filled(length_or(9, 65536)), again = filled(out.length);
+    struct lent lent = lend(11, in[IN_KEY]);
+    if (which != 1 && which != 3 && which != 5 && which != 7)
+        fail("no such message");
+    int64_t length = CALLS.message(which, in, out, place, &lent);
+    if (both_calls(11)) {
+        check_answers(CALLS.message(which, in, again, place, NULL), length);
+        check_same(again, out);
+    }
+    if (length < 0) {
+        check_untouched(out, 0, out.length);
+        printf("refused %lld", (long long)-length);
+    } else {
+        check_untouched(out, 0, place);
+        check_untouched(out, place + (uint64_t)length, out.length);
+        printf("message ");
+        print_bytes(out.at + place, (size_t)length);
+    }
+    for (int j = 0; j < INPUTS; j++)
+        free(in[j].at);
+    free(out.at);
+    free(again.at);
+    give_back(lent);
+}
+
+/* judge key run [work_len at_len] */
+static void run_judge(void)
+{
+    struct list k = bytes(1), run = bytes(2);
+    struct lent lent = lend(3, k);
+    uint32_t verdict = CALLS.judge(k, run, &lent);
+    if (both_calls(3))
+        check_answers(CALLS.judge(k, run, NULL), verdict);
+    printf("%u", verdict);
+    free(k.at);
+    free(run.at);
+    give_back(lent);
+}
+
+static struct number_list numbers_in(struct list l) { return (struct number_list){(uint32_t *)l.at, l.length / 4}; }
+
+/* What the pair reader is lent, one list after the other. */
+enum { HASH1, HASH2, SECRET, UV, ANSWER, FOUND };
+
+static int64_t pair_into(struct list *found, const struct list *in, const struct lent *lent)
+{
+    struct pair_outputs out = {found[HASH1], found[HASH2], found[SECRET], numbers_in(found[UV]), numbers_in(found[ANSWER])};
+    return CALLS.pair(in[0], in[1], in[2], &out, lent);
+}
+
+static void print_found(int64_t finding, const struct list *found, const size_t *used)
+{
+    printf("finding %lld ", (long long)finding);
+    print_numbers((uint32_t *)found[ANSWER].at, ANSWER_WORDS);
+    putchar(' ');
+    if (finding == COLLISION) {
+        print_bytes(found[HASH1].at, used[HASH1]);
+        putchar(' ');
+        print_bytes(found[HASH2].at, used[HASH2]);
+    } else if (finding == WITNESS) {
+        print_bytes(found[SECRET].at, used[SECRET]);
+    } else if (finding == CANCELLED_ERRORS) {
+        print_numbers((uint32_t *)found[UV].at, used[UV] / 4);
+    }
+}
+
+/* pair key run1 run2 [hash1_len hash2_len secret_len uv_len work_len at_len answer_len] */
+static void run_pair(void)
+{
+    struct list in[3] = {bytes(1), bytes(2), bytes(3)}, found[FOUND], again[FOUND];
+    size_t length[FOUND] = {length_or(4, MAX_HASH_INPUT), length_or(5, MAX_HASH_INPUT), length_or(6, MAX_COLUMNS),
+                            4 * length_or(7, MAX_ROWS + MAX_COLUMNS), 4 * length_or(10, ANSWER_WORDS)};
+    size_t used[FOUND] = {0};
+    struct lent lent = lend(8, in[0]);
+    for (int j = 0; j < FOUND; j++) {
+        found[j] = filled(length[j]);
+        again[j] = filled(length[j]);
+    }
+    int64_t finding = pair_into(found, in, &lent);
+    if (both_calls(8)) {
+        check_answers(pair_into(again, in, NULL), finding);
+        for (int j = 0; j < FOUND; j++)
+            check_same(again[j], found[j]);
+    }
+    if (finding < 0) {
+        printf("refused %lld", (long long)-finding);
+    } else {
+        struct key k;
+        read_key(&k, in[0].at, in[0].length);
+        used[HASH1] = used[HASH2] = finding == COLLISION ? ((uint32_t *)found[ANSWER].at)[ANSWER_LENGTH] : 0;
+        used[SECRET] = finding == WITNESS ? k.m : 0;
+        used[UV] = finding == CANCELLED_ERRORS ? 4 * (k.n + k.m) : 0;
+        used[ANSWER] = 4 * ANSWER_WORDS;
+        print_found(finding, found, used);
+    }
+    for (int j = 0; j < FOUND; j++) {
+        check_untouched(found[j], used[j], found[j].length);
+        free(found[j].at);
+        free(again[j].at);
+    }
+    for (int j = 0; j < 3; j++)
+        free(in[j].at);
+    give_back(lent);
+}
+
+#ifndef BADGE
+
+/* The layers. */
 
 static void run_hash(void)
 {
@@ -123,19 +305,6 @@ static void run_block(void)
     uint8_t out[16];
     stream_block(seed.at, number(2), out);
     print_bytes(out, 16);
-    free(seed.at);
-}
-
-static void run_numbers(void)
-{
-    struct list seed = bytes_of(1, 16);
-    size_t count = number(4);
-    uint32_t *out = allocate(4 * count);
-    struct aes128 key;
-    aes128_expand(&key, seed.at);
-    stream_numbers(&key, number(2), (uint32_t)number(3), out, count);
-    print_numbers(out, count);
-    free(out);
     free(seed.at);
 }
 
@@ -268,93 +437,6 @@ static void run_output(void)
     free(key_bytes.at);
 }
 
-/* Calls. */
-
-/* Work lists of the lengths at arguments a and a + 1; "-" is the length that the key asks for. */
-static struct lent lend(int a, struct list key_list)
-{
-    struct key k;
-    struct lent lent = {.work_len = MAX_WORK, .at_len = MAX_AT};
-    if (read_key(&k, key_list.at, key_list.length) == 0) {
-        lent.work_len = work_count(&k);
-        lent.at_len = entry_count(&k);
-    }
-    if (a < arguments && strcmp(argument[a], "-") != 0)
-        lent.work_len = number(a);
-    if (a + 1 < arguments && strcmp(argument[a + 1], "-") != 0)
-        lent.at_len = number(a + 1);
-    lent.work = allocate(4 * lent.work_len);
-    lent.at = allocate(4 * lent.at_len);
-    memset(lent.work, FILL, 4 * lent.work_len);
-    memset(lent.at, FILL, 4 * lent.at_len);
-    return lent;
-}
-
-static void give_back(struct lent lent)
-{
-    free(lent.work);
-    free(lent.at);
-}
-
-/* message number key seeds secret E K L hidden out_len place [work_len at_len] */
-static void run_message(void)
-{
-    struct list in[7], out;
-    for (int j = 0; j < 7; j++)
-        in[j] = bytes(2 + j);
-    uint64_t place = number(10);
-    out = filled(strcmp(argument[9], "-") == 0 ? 65536 : number(9));
-    struct lent lent = lend(11, in[0]);
-    int64_t length = 0;
-#define LIST(j) in[j].at, in[j].length
-    switch (number(1)) {
-    case 1:
-        length = ref_message_1_lent(LIST(0), LIST(1), out.at, out.length, place, &lent);
-        break;
-    case 3:
-        length = ref_message_3_lent(LIST(0), LIST(1), LIST(2), LIST(3), LIST(4), out.at, out.length,
-                                    place, &lent);
-        break;
-    case 5:
-        length = ref_message_5_lent(LIST(0), LIST(1), LIST(2), LIST(3), LIST(4), LIST(5), out.at,
-                                    out.length, place, &lent);
-        break;
-    case 7:
-        length = ref_message_7_lent(LIST(0), LIST(1), LIST(2), LIST(3), LIST(4), LIST(5), LIST(6),
-                                    out.at, out.length, place, &lent);
-        break;
-    default: fail("no such message");
-    }
-#undef LIST
-    if (length < 0) {
-        check_untouched(out, 0, out.length);
-        printf("refused %lld", (long long)-length);
-    } else {
-        check_untouched(out, 0, place);
-        check_untouched(out, place + (uint64_t)length, out.length);
-        printf("message ");
-        print_bytes(out.at + place, (size_t)length);
-    }
-    for (int j = 0; j < 7; j++)
-        free(in[j].at);
-    free(out.at);
-    give_back(lent);
-}
-
-/* judge key run [work_len at_len] */
-static void run_judge(void)
-{
-    struct list k = bytes(1), run = bytes(2);
-    struct lent lent = lend(3, k);
-    uint32_t verdict = ref_judge_lent(k.at, k.length, run.at, run.length, &lent);
-    if (arguments == 3 && ref_judge(k.at, k.length, run.at, run.length) != verdict)
-        fail("the two calls of the judge differ");
-    printf("%u", verdict);
-    free(k.at);
-    free(run.at);
-    give_back(lent);
-}
-
 /* outputs key run: o(1) .. o(N) of each kept execution, as the judge recomputes them. */
 static void run_outputs(void)
 {
@@ -372,62 +454,6 @@ static void run_outputs(void)
     }
     free(bytes_of_run.at);
     free(key_bytes.at);
-}
-
-static size_t length_or(int a, size_t enough)
-{
-    return a < arguments && strcmp(argument[a], "-") != 0 ? number(a) : enough;
-}
-
-/* pair key run1 run2 [hash1_len hash2_len secret_len uv_len work_len at_len answer_len] */
-static void run_pair(void)
-{
-    struct list k = bytes(1), run1 = bytes(2), run2 = bytes(3);
-    struct list hash1 = filled(length_or(4, MAX_HASH_INPUT)), hash2 = filled(length_or(5, MAX_HASH_INPUT));
-    struct list secret = filled(length_or(6, MAX_COLUMNS)), uv = filled(4 * length_or(7, MAX_ROWS + MAX_COLUMNS));
-    struct list answer = filled(4 * length_or(10, ANSWER_WORDS));
-    struct lent lent = lend(8, k);
-    size_t hash_used = 0, secret_used = 0, uv_used = 0, answer_used = 4 * ANSWER_WORDS;
-    uint32_t *a = (uint32_t *)answer.at;
-    int64_t finding = ref_pair_lent(k.at, k.length, run1.at, run1.length, run2.at, run2.length,
-                                    hash1.at, hash1.length, hash2.at, hash2.length,
-                                    secret.at, secret.length, (uint32_t *)uv.at, uv.length / 4,
-                                    a, answer.length / 4, &lent);
-    if (finding < 0) {
-        answer_used = 0;
-        printf("refused %lld", (long long)-finding);
-    } else {
-        read_key(&key, k.at, k.length);
-        printf("finding %lld ", (long long)finding);
-        print_numbers(a, ANSWER_WORDS);
-        putchar(' ');
-        if (finding == COLLISION) {
-            hash_used = a[ANSWER_LENGTH];
-            print_bytes(hash1.at, hash_used);
-            putchar(' ');
-            print_bytes(hash2.at, hash_used);
-        } else if (finding == WITNESS) {
-            secret_used = key.m;
-            print_bytes(secret.at, secret_used);
-        } else if (finding == CANCELLED_ERRORS) {
-            uv_used = 4 * (key.n + key.m);
-            print_numbers((uint32_t *)uv.at, uv_used / 4);
-        }
-    }
-    check_untouched(hash1, hash_used, hash1.length);
-    check_untouched(hash2, hash_used, hash2.length);
-    check_untouched(secret, secret_used, secret.length);
-    check_untouched(uv, uv_used, uv.length);
-    check_untouched(answer, answer_used, answer.length);
-    free(k.at);
-    free(run1.at);
-    free(run2.at);
-    free(hash1.at);
-    free(hash2.at);
-    free(secret.at);
-    free(uv.at);
-    free(answer.at);
-    give_back(lent);
 }
 
 /* trace key run1 run2: e, then kind:i:length:hash:hash of each compared input. */
@@ -461,14 +487,20 @@ static void run_trace(void)
     give_back(lent);
 }
 
+#endif
+
 static const struct {
     const char *name;
     void (*run)(void);
 } commands[] = {
+    {"numbers", run_numbers},
+    {"message", run_message},
+    {"judge", run_judge},
+    {"pair", run_pair},
+#ifndef BADGE
     {"hash", run_hash},           /* data */
     {"inverse", run_inverse},     /* N q */
     {"block", run_block},         /* seed j */
-    {"numbers", run_numbers},     /* seed first q count */
     {"leaves", run_leaves},       /* N root */
     {"open", run_open},           /* N hidden root */
     {"reopen", run_reopen},       /* N hidden opened */
@@ -476,11 +508,9 @@ static const struct {
     {"h", run_h},                 /* key master */
     {"coefficients", run_coefficients}, /* key L e */
     {"output", run_output},
-    {"message", run_message},
-    {"judge", run_judge},
     {"outputs", run_outputs},
-    {"pair", run_pair},
     {"trace", run_trace},
+#endif
 };
 
 static void run_line(char *line)

@@ -202,6 +202,57 @@ static uint8_t *put_opening(struct execution *x, const uint8_t *master, uint32_t
     return out + 8 * m;
 }
 
+/* Leaves, shares and coefficients of an execution by its master seed. */
+static void deal(struct execution *x, const struct sample *s, uint32_t e)
+{
+    tree_leaves(s->seeds + 16 * e, x->key->N, x->leaf);
+    for (uint32_t i = 0; i < x->key->N; i++)
+        expand_party(x, i, WANT_B | WANT_D | WANT_S);
+    last_d_from_square(x);
+    draw_coefficients(x, s->L, e);
+}
+
+/* Kept execution j by a badge that cheats; writes both openings and moves their ends. */
+static void cheat_kept(struct execution *x, const struct sample *s, uint32_t e, uint32_t j, enum cheat cheat, uint8_t *end[2],
+                       uint64_t *state)
+{
+    uint32_t right[MAX_COLUMNS];
+    for (uint32_t k = 0; k < x->key->m; k++)
+        right[k] = s->secret[k];
+    deal(x, s, e);
+    if (j == s->pair)
+        cheat_openly(x, right, cheat, state);
+    else
+        cheat_hidden(x, s->hidden[0][j] - 1u, state);
+    for (uint32_t i = 0; i < x->key->N; i++)
+        commit_party(x, i);
+    for (int which = 0; which < 2; which++)
+        end[which] = put_opening(x, s->seeds + 16 * e, s->hidden[which][j] - 1u, end[which]);
+}
+
+/* Kept execution j from random bytes, the o of the hidden party fitted; one opening for both transcripts. */
+static void forge_kept(struct execution *x, const struct sample *s, uint32_t e, uint32_t j, uint8_t *end[2], uint64_t *state)
+{
+    const struct key *key = x->key;
+    uint32_t hidden = s->hidden[0][j] - 1u, length = opening_length(key, hidden);
+    uint8_t *seeds = end[0], *alpha = seeds + 16 * key->depth + 32, *o = alpha + 4 * key->m, g[16], w[16];
+    struct transcript run = {.part[3] = s->L, .part[6] = s->K};
+    random_bytes(state, seeds, length);
+    for (uint8_t *number = alpha; number < seeds + length; number += 4)
+        store_number(number, random_below(state, key->q));
+    run.opening[j] = (struct opening){.e = e, .hidden = hidden, .seeds = seeds, .Gamma = alpha - 32, .alpha = alpha, .o = o};
+    if (hidden + 1 < key->N) {
+        run.opening[j].d = o + 4;
+        run.opening[j].s = o + 4 + 4 * key->m;
+    }
+    replay(x, &run, j, g, w);
+    x->o[hidden] = minus(x->o[hidden], sum_of_outputs(x), key->q);
+    store_number(o, x->o[hidden]);
+    memcpy(end[1], seeds, length);
+    end[0] += length;
+    end[1] += length;
+}
+
 /* The parts from what the executions gave. */
 static void put_parts(struct sample *s, const struct commitments *c, const uint8_t (*Omega)[32], int which,
                       size_t opened)
@@ -229,16 +280,14 @@ void make_cheating(struct sample *s, enum cheat cheat, uint64_t *state)
 {
     static uint32_t work[MAX_WORK], at[MAX_AT];
     const struct key *key = &s->read;
-    struct execution x;
+    static struct execution x;
     struct commitments c;
     uint8_t Omega[MAX_EXECUTIONS][32], mask[16], *end[2];
-    uint32_t kept[MAX_EXECUTIONS], right[MAX_COLUMNS];
+    uint32_t kept[MAX_EXECUTIONS];
     size_t start = 56 + 32 + key->tau + part_3_length(key) + 16 + 32 + key->kept;
     load_numbers(at, key->entries, entry_count(key));
     execution_start(&x, key, work, at);
     list_kept(key, s->E, kept);
-    for (uint32_t k = 0; k < key->m; k++)
-        right[k] = s->secret[k];
     for (int which = 0; which < 2; which++) {
         memcpy(s->run[which] + start, s->K, 16);
         end[which] = s->run[which] + start + 16;
@@ -246,26 +295,16 @@ void make_cheating(struct sample *s, enum cheat cheat, uint64_t *state)
     for (uint32_t j = 0; j < key->tau; j++)
         hash_from_master(&x, s->seeds + 16 * (s->E[j] - 1), c.h[s->E[j] - 1]);
     for (uint32_t j = 0; j < key->kept; j++) {
-        const uint8_t *master = s->seeds + 16 * kept[j];
-        tree_leaves(master, key->N, x.leaf);
-        for (uint32_t i = 0; i < key->N; i++)
-            expand_party(&x, i, WANT_B | WANT_D | WANT_S);
-        last_d_from_square(&x);
-        draw_coefficients(&x, s->L, kept[j]);
-        if (j == s->pair)
-            cheat_openly(&x, right, cheat, state);
+        if (cheat == CHEAT_FORGED && j != s->pair)
+            forge_kept(&x, s, kept[j], j, end, state);
         else
-            cheat_hidden(&x, s->hidden[0][j] - 1u, state);
-        for (uint32_t i = 0; i < key->N; i++)
-            commit_party(&x, i);
+            cheat_kept(&x, s, kept[j], j, cheat, end, state);
         hash_parties(&x, c.h[kept[j]]);
         commit_last_share(&x, Omega[j]);
         stream_block(s->K, 2 * kept[j], mask);
         commit_alpha(&x, mask, c.Pi[j]);
         stream_block(s->K, 2 * kept[j] + 1, mask);
         commit_outputs(&x, mask, c.Psi[j]);
-        for (int which = 0; which < 2; which++)
-            end[which] = put_opening(&x, master, s->hidden[which][j] - 1u, end[which]);
     }
     for (int which = 0; which < 2; which++)
         put_parts(s, &c, (const uint8_t (*)[32])Omega, which, (size_t)(end[which] - s->run[which]) - start);

@@ -29,7 +29,8 @@ void make_honest(struct sample *s);
 enum cheat {
     CHEAT_SQUARE, /* a wrong secret, its error taken up by a wrong square */
     CHEAT_LUCKY,  /* the right secret with wrong squares that cancel */
-    CHEAT_ERRORS  /* a wrong secret whose errors cancel; found by trying, so for q 257 only */
+    CHEAT_ERRORS, /* a wrong secret whose errors cancel; found by trying, so for q 257 only */
+    CHEAT_FORGED  /* as CHEAT_SQUARE, and every other kept execution made from random bytes */
 };
 void make_cheating(struct sample *s, enum cheat cheat, uint64_t *state);
 

@@ -1,10 +1,12 @@
 """Compares vector files with the second implementation.
 
-    vectors.py [--build DIRECTORY] FILE_OR_DIRECTORY ..
+    vectors.py [--build DIRECTORY] [--calls] FILE_OR_DIRECTORY ..
 
 Every file is JSON lines; its name says what it holds. Prints one line for each file and each
-difference, and fails if there is any.
+difference, and fails if there is any. With --calls, DIRECTORY has a program that knows the calls and
+no layers; of primitives and traces, what the calls show is compared, and the rest counted as not shown.
 """
+import hashlib
 import json
 import os
 import struct
@@ -92,13 +94,78 @@ def trace(cli, v):
     return {"e": int(words[0]), "inputs": inputs}
 
 
+def shown(cli, number, **inputs):
+    """The message, in bytes, of inputs in hex."""
+    return bytes.fromhex(message(cli, {**dict.fromkeys(INPUTS, ""), **inputs}, number)["message"])
+
+
+def number_list(data):
+    return list(struct.unpack("<%dI" % (len(data) // 4), data))
+
+
+def if_hashed(value, digest):
+    """The value in hex, if that is its hash."""
+    return value if hashlib.sha256(bytes.fromhex(value)).digest() == digest else "not the one hashed"
+
+
+def tree_shown(cli, v):
+    """Openings by message 7 of a key with A and t all zero; a leaf by the opening that hides its sibling."""
+    N, key = v["N"], struct.pack("<9I", 257, 1, 2, v["N"], 2, 1, 0, 0, 0).hex()
+    opened = []
+    for i in range(1, N + 1):
+        part = shown(cli, 7, key=key, masters=2 * v["master"], secret="0000", E="01", K="00" * 16, L="00" * 16,
+                     hidden="%02x" % i)
+        opened.append(chunks(part[16:16 * N.bit_length()].hex(), 16))
+    return {"opened": opened, "leaves": [x if x in opened[i ^ 1] else "not opened" for i, x in enumerate(v["leaves"])]}
+
+
+def h_shown(cli, v):
+    """H(h .. h) by message 1, all master seeds being the same."""
+    M = struct.unpack_from("<I", bytes.fromhex(v["key"]), 16)[0]
+    digest = shown(cli, 1, key=v["key"], masters=M * v["master"])
+    return {"h": if_hashed(M * v["h"], digest)[:64]}
+
+
+def output_shown(cli, v):
+    """One execution by messages 3, 5 and 7 of the same key with tau = M - 1."""
+    key = bytearray.fromhex(v["key"])
+    _, _, m, N, M, _ = struct.unpack_from("<6I", key)
+    struct.pack_into("<I", key, 20, M - 1)
+    E = bytes(e for e in range(1, M + 1) if e != v["e"])
+    given = dict(key=key.hex(), masters=M * v["master"], secret=v["secret"], E=E.hex(), K=v["K"])
+    third = shown(cli, 3, **given)[16 * (M - 1):]
+    fifth = shown(cli, 5, **given, L=v["L"])
+    o = []
+    for i in range(N, 0, -1):
+        numbers_of_i = shown(cli, 7, **given, L=v["L"], hidden="%02x" % i)[16 * N.bit_length() + 32:]
+        o.insert(0, number_list(numbers_of_i)[m])
+    last = number_list(numbers_of_i)[m + 1:]
+    return {"Omega": third[:32].hex(), "Pi": if_hashed(v["Pi"], third[32:]), "Psi": if_hashed(v["Psi"], fifth), "o": o,
+            "d_N": last[:m], "s_N": last[m:]}
+
+
+def primitive_shown(cli, v):
+    if v["what"] == "stream" and v["first"] < 2 ** 62:
+        return primitive(cli, v)
+    return {"tree": tree_shown, "h": h_shown, "output": output_shown}.get(v["what"], lambda *_: {})(cli, v)
+
+
+def trace_shown(cli, v):
+    """No collision where all inputs are equal, and e where the finding has one."""
+    got = pair_answer(cli("pair", v["key"], v["run1"], v["run2"]))
+    collides = any(one != two for _, _, _, one, two in v["inputs"])
+    assert (got["finding"] == 1) == collides
+    return {"e": got["e"]} if "e" in got else {}
+
+
 KINDS = {"primitives": primitive, "prover": prover, "lent": lent, "judge": judge, "pair": pair,
          "trace": trace, "weak_pair": pair}
+SHOWN = {**KINDS, "primitives": primitive_shown, "trace": trace_shown}
 
 
 class Runner:
-    def __init__(self, build):
-        self.build = build
+    def __init__(self, build, kinds=KINDS):
+        self.build, self.kinds = build, kinds
         self.programs = {}
 
     def cli(self, modulus):
@@ -108,21 +175,22 @@ class Runner:
 
     def compute(self, kind, v):
         """The values of the vector that the implementation gives."""
-        return KINDS[kind](self.cli(v.get("modulus")), v)
+        return self.kinds[kind](self.cli(v.get("modulus")), v)
 
     def compare(self, path):
         kind = os.path.basename(path).split(".")[0]
-        count = differ = 0
+        count = differ = silent = 0
         with open(path) as lines:
             for line in lines:
                 v = json.loads(line)
                 got = self.compute(kind, v)
                 count += 1
+                silent += not got
                 for name in got:
                     if name in v and got[name] != v[name]:
                         differ += 1
                         print("%s %s: %s is %.200s, not %.200s" % (path, v["id"], name, got[name], v[name]))
-        print("%s: %d vectors, %d differences" % (path, count, differ))
+        print("%s: %d vectors, %d differences%s" % (path, count, differ, ", %d not shown" % silent if silent else ""))
         return count, differ
 
     def close(self):
@@ -139,10 +207,12 @@ def files(arguments):
 
 
 def main(arguments):
-    build = BUILD
+    build, kinds = BUILD, KINDS
     if arguments[:1] == ["--build"]:
         build, arguments = arguments[1], arguments[2:]
-    runner = Runner(build)
+    if arguments[:1] == ["--calls"]:
+        kinds, arguments = SHOWN, arguments[1:]
+    runner = Runner(build, kinds)
     results = [runner.compare(path) for path in files(arguments)]
     runner.close()
     count, differ = sum(r[0] for r in results), sum(r[1] for r in results)

@@ -1,7 +1,4 @@
-/* The proved SHA-256, AES-128 and streams on published vectors, on vectors of streams from standard input, and beside the second
- * implementation on inputs of many lengths.
- *
- * A line of standard input: seed in hex, first block, q, count, then the numbers. */
+/* The proved SHA-256, AES-128 and streams on published vectors, and beside the second implementation on inputs of many lengths. */
 #include "primitives.h"
 
 #include "aes128.h"
@@ -9,7 +6,6 @@
 #include "sha256.h"
 
 #include <stdio.h>
-#include <stdlib.h>
 #include <string.h>
 
 static unsigned long passed, failed;
@@ -147,36 +143,12 @@ static void refusals(void)
     expect(out[0] == 7 && out[1] == 7 && out[2] == 7, "untouched");
 }
 
-static void streams(void)
-{
-    char seed[64];
-    unsigned long long first, q, count;
-    unsigned long run = 0;
-    while (scanf("%63s %llu %llu %llu", seed, &first, &q, &count) == 4) {
-        uint8_t s[32];
-        uint32_t got[64];
-        int ok = count <= 64;
-        size_t n = from_hex(seed, s);
-        ok = ok && badge_numbers(s, n, first, (uint32_t)q, got, count) == 0;
-        for (unsigned long long j = 0; j < count; j++) {
-            unsigned long long want;
-            if (scanf("%llu", &want) != 1)
-                exit(2);
-            ok = ok && got[j] == want;
-        }
-        expect(ok, "a stream of the vectors");
-        run++;
-    }
-    expect(run > 0, "streams on standard input");
-}
-
 int main(void)
 {
     nist();
     fips197();
     beside_the_reference();
     refusals();
-    streams();
     printf("primitives: %lu passed, %lu failed\n", passed, failed);
     return failed != 0;
 }
