@@ -115,7 +115,62 @@ def pair(v):
     return {"expect": {"finding": 4, "e": r.a[0], "uv": list(r.a[1])}}
 
 
-KINDS = {"judge": judge, "prover": prover, "lent": lent, "pair": pair, "weak_pair": pair}
+def field(r, name):
+    return getattr(r, a.py(name))
+
+
+def trace(v):
+    sides = a.call("keyOf", hexes(v["key"])), a.call("partsOf", hexes(v["run1"])), a.call("partsOf", hexes(v["run2"]))
+    e = a.call("execution", *sides)
+    inputs = [[field(c, "kind"), field(c, "party"), len(field(c, "one"))] + [bytes(digest(field(c, x))).hex() for x in ("one", "two")]
+              for c in a.call("comparisons", *sides, e)]
+    return {"e": e + 1, "inputs": inputs}
+
+
+def leaf_shares(K, v):
+    """A leaf's values as party 1 draws them, and g(N)."""
+    leaf, m = hexes(v["leaf"]), field(K, "m")
+    drawn = [a.call("share", K, leaf, 0, j) for j in range(3 * m)]
+    r, g = (bytes(a.call("block", leaf, j)).hex() for j in (0, 1))
+    return {"r": r, "g_N": g, "b": drawn[:m], "d": drawn[m:2 * m], "s": drawn[2 * m:]}
+
+
+def execution(K, v):
+    """An honest execution by its master seed, secret, K and L."""
+    secret, k, L, e = hexes(v["secret"]), hexes(v["K"]), hexes(v["L"]), v["e"] - 1
+    view = a.call("dealt", K, e, hexes(v["master"]), a.Fn(1, lambda j: secret[j]))
+    hashes = {name: bytes(digest(x)).hex() for name, x in (("Omega", a.call("Ωin", K, view)), ("Pi", a.call("Πin", K, view, k)),
+                                                          ("Psi", a.call("Ψin", K, view, k, L)))}
+    d, s = ([a.ap(field(view, x), j) for j in range(field(K, "m"))] for x in ("dN", "sN"))
+    return {"d_N": d, "s_N": s, "o": [a.call("o", K, view, L, i) for i in range(field(K, "N"))], **hashes}
+
+
+def primitives(v):
+    """All but the inverse of N, which stays outside."""
+    what = v["what"]
+    if what == "inverse":
+        return {}
+    if what == "stream":
+        count = len(v["numbers"])
+        return {"numbers": [a.call("draw", v["q"], hexes(v["seed"]), v["first"], count, j) for j in range(count)]}
+    if what == "tree":
+        master, depth, leaves = hexes(v["master"]), v["N"].bit_length() - 1, range(v["N"])
+        opened = [bytes(a.call("opening", depth, master, h)) for h in leaves]
+        return {"leaves": [bytes(a.call("leaf", depth, master, i)).hex() for i in leaves],
+                "opened": [[x[j:j + 16].hex() for j in range(0, len(x), 16)] for x in opened]}
+    K = a.call("keyOf", hexes(v["key"]))
+    if what == "shares":
+        return leaf_shares(K, v)
+    if what == "h":
+        view = a.call("dealt", K, 0, hexes(v["master"]), a.Fn(1, lambda j: 0))
+        return {"h": bytes(digest(a.call("hin", K, view))).hex()}
+    if what == "coefficients":
+        drawn = [a.call("coefficient", K, hexes(v["L"]), v["e"] - 1, j) for j in range(field(K, "n") + field(K, "m"))]
+        return {"beta": drawn[:field(K, "n")], "gamma": drawn[field(K, "n"):]}
+    return execution(K, v)
+
+
+KINDS = {"primitives": primitives, "judge": judge, "prover": prover, "lent": lent, "pair": pair, "trace": trace, "weak_pair": pair}
 
 
 def main():
