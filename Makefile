@@ -7,6 +7,7 @@
 # make weak         the pair reader on collisions: a copy of the library whose hash is cut to a few values
 # make bench        our time over that of C, in one run; the stack of each call
 # make lib          library and header in dist/
+# make pin          writes the table of numbers and the pinned contracts and definitions anew, to be reviewed
 # make demo         an example of firmware: a badge, a door and an auditor
 # make clean        removes what was built
 CC = gcc
@@ -26,7 +27,7 @@ HEADERS = $(wildcard include/*.h reference/*.h tests/c/*.h)
 LIBBADGE = target/staticlib/libbadge.a
 LIBPRIMITIVES = target/staticlib/libprimitives.a
 
-.PHONY: test tests claims reference definitions primitives calls shared-vectors beside program compare campaign weak bench lib demo clean
+.PHONY: test tests claims pin reference definitions primitives calls shared-vectors beside program compare campaign weak bench lib demo clean
 .SECONDARY:
 
 test:
@@ -36,6 +37,9 @@ tests: claims reference definitions primitives calls beside program
 
 claims:
 	python3 tools/check_claims.py
+
+pin:
+	python3 tools/check_claims.py --pin
 
 reference:
 	$(MAKE) --no-print-directory -C reference test
