@@ -23,7 +23,8 @@ use Rattle.protocol.specs.Judge.{hidden, κ, keptView, view}
 use Rattle.protocol.specs.Pair.{Comparison, Reading, collision, firstDifferent, compare, openInBoth, comparisons}
 use Rattle.key.specs.declared.Numbers.{Numbers}
 use Rattle.key.specs.Numbers.{Of, Limits}
-use Rattle.inputs.specs.Layout.{Listed, Written, listsSize, executionSize, hπFrom, hψFrom, ΓFrom, ΓSize, ΩFrom, ΠFrom, ΨFrom}
+use Rattle.walk.specs.Lists.{Listed, listsSize, hπFrom, hψFrom}
+use Rattle.inputs.specs.Layout.{Written, executionSize, ΓFrom, ΓSize, ΩFrom, ΠFrom, ΨFrom}
 use Rattle.compare.specs.declared.Spot.{Spot}
 use Rattle.compare.specs.Spots.{Spotted, Inside, Spots, Marked, openBoth, at, onHashes, onParty, onLast, onRest, onAll}
 

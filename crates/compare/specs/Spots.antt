@@ -11,7 +11,8 @@ use Rattle.lists.specs.Index.{pick, part, cat, same, holds}
 use Rattle.protocol.specs.Key.{Key}
 use Rattle.protocol.specs.Transcript.{Parts}
 use Rattle.protocol.specs.Pair.{Comparison, Reading, collision, firstDifferent, compare, comparisons}
-use Rattle.inputs.specs.Layout.{hπFrom, hψFrom, ΓFrom, ΓSize, ΩFrom, ΠFrom, ΨFrom}
+use Rattle.walk.specs.Lists.{hπFrom, hψFrom}
+use Rattle.inputs.specs.Layout.{ΓFrom, ΓSize, ΩFrom, ΠFrom, ΨFrom}
 use Rattle.compare.specs.declared.Spot.{Spot}
 
 -- the input that a spot shows in the lists l and x

@@ -13,7 +13,8 @@ ghost use Rattle.protocol.specs.Prover.{opened};
 ghost use Rattle.protocol.specs.Transcript.{Parts};
 ghost use Rattle.protocol.specs.Judge.{hidden, κ, keptView};
 ghost use Rattle.key.specs.Numbers.{Of, Limits};
-ghost use Rattle.inputs.specs.Layout.{Listed, Written, listsSize, executionSize};
+ghost use Rattle.walk.specs.Lists.{Listed, listsSize};
+ghost use Rattle.inputs.specs.Layout.{Written, executionSize};
 ghost use Rattle.compare.specs.Spots.{Spotted, Inside, Spots, Marked, openBoth, onHashes, onParty, onLast, onRest};
 
 // Two inputs that differ: their kind, the party from 1 on (N for Ω, 0 where none), and where both begin and how long both are, in the

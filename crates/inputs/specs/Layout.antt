@@ -1,5 +1,4 @@
--- Document 01, Pair reader: the hash inputs of a transcript in two lists of bytes. One holds those of the three list hashes, hΓ, hπ
--- and hψ; the other those of one kept execution: h(e), Γ(1) .. Γ(N), Ω, Π and Ψ.
+-- Document 01, Pair reader: the hash inputs of one kept execution in a list of bytes: h(e), Γ(1) .. Γ(N), Ω, Π and Ψ.
 -- Assumes nothing.
 use Prim.Native.Nat.{ℕ, suc, _+_, _*_, _<_, _≤_}
 use mathlib.Core.Path.{_≡_}
@@ -7,21 +6,8 @@ use mathlib.Core.List.{List}
 use lib.Dec.{eqb}
 use lib.ListN.{length}
 use Rattle.lists.specs.Index.{pick, part}
-use Rattle.protocol.specs.Key.{Key, keptCount}
+use Rattle.protocol.specs.Key.{Key}
 use Rattle.protocol.specs.Shares.{View, Γin, hin, Ωin, Πin, Ψin}
-use Rattle.protocol.specs.Prover.{hΓin, hπin, hψin}
-use Rattle.protocol.specs.Transcript.{Parts}
-use Rattle.protocol.specs.Judge.{κ, view}
-
--- Where the inputs of the list hashes begin, for M executions of which c are kept; the first is at 0.
-abbrev pub hπFrom : ℕ → ℕ
-hπFrom M = 32 * M
-
-abbrev pub hψFrom : ℕ → ℕ → ℕ
-hψFrom M c = 32 * M + 32 * c
-
-abbrev pub listsSize : ℕ → ℕ → ℕ
-listsSize M c = 32 * M + 64 * c
 
 -- Where the inputs of an execution begin, for m columns and N parties; that of h(e) is at 0.
 abbrev pub ΓFrom : ℕ → ℕ → ℕ
@@ -41,13 +27,6 @@ abbrev pub ΨFrom : ℕ → ℕ → ℕ
 
 abbrev pub executionSize : ℕ → ℕ → ℕ
 executionSize m N = 68 * N + 8 * m + 4 * m * N + 48
-
--- the inputs of the three list hashes
-pub record Listed (K : Key) (P : Parts) (x : List ℕ) : Type 0 where
-  pub long : length x ≡ listsSize (K .M) (keptCount K)
-  pub hΓ : part x 0 (32 * K .M) ≡ hΓin K (view K P)
-  pub hπ : part x (hπFrom (K .M)) (32 * keptCount K) ≡ hπin K (view K P) (P .p2) (κ K P)
-  pub hψ : part x (hψFrom (K .M) (keptCount K)) (32 * keptCount K) ≡ hψin K (view K P) (P .p2) (κ K P) (P .p4)
 
 -- the inputs of one execution; at the hidden party's places stands anything
 pub record Written (K : Key) (v : View) (κ L x : List ℕ) : Type 0 where
