@@ -1,6 +1,5 @@
 -- `first_difference` takes the groups in order. Assumes nothing.
 use Rattle.compare.proofs.Laws.{answered, all-stop, all-stop-2, all-stop-3, all-end}
-use borrow.Author.Needs.{needs}
 use Rattle.compare.proofs.first_difference.Statement.{statement}
 use Rattle.compare.proofs.first_difference.Tie as tie
 

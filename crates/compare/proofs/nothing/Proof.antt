@@ -1,6 +1,5 @@
 -- `nothing` finds no difference. Assumes nothing.
 use Rattle.compare.proofs.Laws.{spots-none}
-use borrow.Author.Needs.{needs}
 use Rattle.compare.proofs.nothing.Statement.{statement}
 use Rattle.compare.proofs.nothing.Tie as tie
 

@@ -1,6 +1,5 @@
 -- `open_in_both` compares with both hidden parties. Assumes nothing.
 use Rattle.compare.proofs.Laws.{closed-one, closed-two, open-two}
-use borrow.Author.Needs.{needs}
 use Rattle.compare.proofs.open_in_both.Statement.{statement}
 use Rattle.compare.proofs.open_in_both.Tie as tie
 
