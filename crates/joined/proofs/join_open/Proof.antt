@@ -1,9 +1,6 @@
 -- `join_open`: the first j places hold their sums. Assumes nothing.
 use Prim.Native.Nat.{_*_, _-_}
-use mathlib.Core.Path.{refl}
-use native.Mathlib.Omega.{arith}
 use borrow.Author.Needs.{needs}
-use lib.ListN.{length}
 use Rattle.lists.specs.Tab.{Filling, start, more, done}
 use Rattle.joined.specs.Joined.{openSum}
 use Rattle.joined.proofs.join_open.Statement.{statement}

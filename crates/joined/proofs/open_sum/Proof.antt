@@ -5,7 +5,7 @@ use native.Mathlib.Omega.{arith}
 use borrow.Author.Needs.{needs}
 use Rattle.numbers.specs.Sum.{sum}
 use Rattle.execution.proofs.Laws.{sum-step}
-use Rattle.joined.specs.Joined.{openAt, openSum}
+use Rattle.joined.specs.Joined.{openAt}
 use Rattle.joined.proofs.Laws.{place-in, open-all}
 use Rattle.joined.proofs.open_sum.Statement.{statement}
 use Rattle.joined.proofs.open_sum.Tie as tie
