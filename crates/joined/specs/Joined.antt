@@ -107,3 +107,11 @@ module _ (K : Key) (P R : Parts) (e : ℕ) (p-kept : opened (P .p2) e ≡ false)
           ds = λ k h. number-is d (K .m) (omega arith) (p .ds) (r .ds) k h;
           ss = λ k h. number-is s (2 * K .m) (omega arith) (p .ss) (r .ss) k h;
         }
+
+-- The same, where the hidden party of the first transcript is known as h.
+pub joined-by : (K : Key) (P R : Parts) (e h : ℕ) → h ≡ hidden K P e → opened (P .p2) e ≡ false → opened (R .p2) e ≡ false → h < K .N
+    → (h ≡ hidden K R e → ⊥) → (one two x y : List ℕ) → y ≡ tab (3 * K .m) (openSum (K .q) (K .m) (K .N) h one)
+    → x ≡ tab (3 * K .m) (withParty (K .q) (K .m) h two y)
+    → {leaves-one leaves-two : List ℕ} → Shown K (keptView K P e) leaves-one one → Shown K (keptView K R e) leaves-two two → Joined K P R e x
+joined-by K P R e h is p-kept r-kept inside differ one two x y first-is second-is =
+    joined-is K P R e p-kept r-kept (rw is at inside) (λ z. differ (is ∙ z)) one two x y (rw is at first-is) (rw is at second-is)
