@@ -76,6 +76,17 @@ static void copy(struct bytes *b, const struct bytes *from) { set(b, from->at, f
 
 static void damage_bytes(struct bytes *b) { damage(b->at, &b->length, sizeof b->at, &seed); }
 
+/* One change, or one behind the header and now and then another. */
+static void damage_run(struct bytes *run, const struct bytes *key)
+{
+    if (random_below(&seed, 3) == 0) {
+        damage_parts(run->at, &run->length, sizeof run->at, load_number(key->at), &seed);
+        if (random_below(&seed, 2) == 0)
+            return;
+    }
+    damage_bytes(run);
+}
+
 static struct list exact(const struct bytes *b)
 {
     struct list l = block(b->length);
@@ -356,7 +367,8 @@ static void compare_judges(const struct bytes *key, const struct bytes *run, int
     static struct bytes damaged;
     for (int j = 0; j < count; j++) {
         copy(&damaged, run);
-        for (uint32_t rounds = 1 + random_below(&seed, 2); rounds > 0; rounds--)
+        damage_run(&damaged, key);
+        if (random_below(&seed, 3) == 0)
             damage_bytes(&damaged);
         judge(key, &damaged);
         copy(&damaged, key);
@@ -373,7 +385,7 @@ static void compare_pairs(const struct bytes *key, const struct bytes *run, int 
     for (int j = 0; j < count; j++) {
         uint32_t which = random_below(&seed, 2);
         copy(&damaged, &run[which]);
-        damage_bytes(&damaged);
+        damage_run(&damaged, key);
         pair(key, which ? &run[0] : &damaged, which ? &damaged : &run[1]);
     }
     copy(&damaged, key);
@@ -442,6 +454,22 @@ static void compare_runs(const struct sample *s, int64_t expected, int damages)
     compare_pairs(&key, run, damages / 2);
 }
 
+/* Another run of the badge that knows the secret, beside a transcript of the same key. */
+static void compare_other_run(const struct sample *s)
+{
+    static struct sample other;
+    static struct bytes key, run[2];
+    int64_t answer;
+    other = *s;
+    random_bytes(&seed, other.L, 16);
+    make_honest(&other);
+    set(&key, s->key, s->key_len);
+    set(&run[0], s->run[0], s->run_len[0]);
+    set(&run[1], other.run[0], other.run_len[0]);
+    answer = pair(&key, &run[0], &run[1]);
+    check(answer == -PARTS_DIFFER || answer == -LENT_SHORT, "transcripts of two runs");
+}
+
 /* Honest messages and transcripts over all q and N, odd and even m, M up to 32. */
 static void compare_honest(void)
 {
@@ -478,6 +506,7 @@ static void compare_sample(void)
     samples_of[kind]++;
     compare_runs(&s, kind == 0 || kind == 2 ? WITNESS : 0, record[2] == 128 ? 2 : DAMAGED);
     compare_messages(&s, record[2] == 128 ? 2 : DAMAGED);
+    compare_other_run(&s);
 }
 
 /* The judge reads a key, or message 1 writes an output, one byte shorter than it is told. */

@@ -335,3 +335,22 @@ void damage(uint8_t *data, size_t *length, size_t most, uint64_t *state)
         store_number(p, word);
     }
 }
+
+void damage_parts(uint8_t *run, size_t *length, size_t most, uint32_t q, uint64_t *state)
+{
+    uint32_t part_7 = load_number(run + 48), size = load_number(run + 52), kind = random_below(state, 5);
+    if (kind < 2) { /* an entry of part 2 or 6, near its limits */
+        const uint8_t *pair = run + (kind == 0 ? 8 : 40);
+        run[load_number(pair) + random_below(state, load_number(pair + 4))] = (uint8_t)random_below(state, 34);
+    } else if (kind == 2) { /* part 7 and the file shorter or longer together */
+        uint32_t change = 1 + random_below(state, 20);
+        uint32_t other = random_below(state, 2) == 0 && *length + change <= most ? size + change : size - change;
+        for (size_t j = *length; j < part_7 + other; j++)
+            run[j] = 0;
+        *length = part_7 + other;
+        store_number(run + 52, other);
+    } else { /* a number with the same residue, or one more */
+        uint8_t *number = run + part_7 + 16 + 4 * random_below(state, (size - 16) / 4);
+        store_number(number, load_number(number) + (kind == 3 ? q : 1));
+    }
+}

@@ -37,4 +37,7 @@ void make_cheating(struct sample *s, enum cheat cheat, uint64_t *state);
 /* Changes, cuts or lengthens a list of bytes in place. */
 void damage(uint8_t *data, size_t *length, size_t most, uint64_t *state);
 
+/* Changes a well formed transcript behind its header: E, the hidden list, part 7's length or one of its numbers. */
+void damage_parts(uint8_t *run, size_t *length, size_t most, uint32_t q, uint64_t *state);
+
 #endif
