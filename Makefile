@@ -5,7 +5,7 @@
 # make compare      the library's C calls beside the second implementation on more than a million inputs
 # make campaign     the same under the AddressSanitizer, SAMPLES=number of keys to start from
 # make weak         the pair reader on collisions: a copy of the library whose hash is cut to a few values
-# make bench        our time over that of C, in one run; the stack of each call
+# make bench        our time over that of C, in one run; make stack: the stack of each call
 # make lib          library and header in dist/
 # make pin          writes the table of numbers and the pinned contracts and definitions anew, to be reviewed
 # make demo         an example of firmware: a badge, a door and an auditor
@@ -27,13 +27,13 @@ HEADERS = $(wildcard include/*.h reference/*.h tests/c/*.h)
 LIBBADGE = target/staticlib/libbadge.a
 LIBPRIMITIVES = target/staticlib/libprimitives.a
 
-.PHONY: test tests claims pin reference definitions primitives calls shared-vectors beside program compare campaign weak bench lib demo clean
+.PHONY: test tests claims pin reference definitions primitives calls shared-vectors beside program compare campaign weak stack bench lib demo clean
 .SECONDARY:
 
 test:
 	./.ci/run
 
-tests: claims reference definitions primitives calls beside program
+tests: claims reference definitions primitives calls $(if $(filter PAIR,$(MISSING)),,weak) beside program stack demo
 
 claims:
 	python3 tools/check_claims.py
@@ -136,6 +136,9 @@ $(BUILD)/bench_primitives_O%: tests/c/bench_primitives.c $(BUILD)/O%/reference.o
 
 $(BUILD)/bench_calls: tests/c/bench_calls.c $(BUILD)/O3/badge.o $(BUILD)/O3/reference.o $(LIBBADGE)
 	$(CC) $(CFLAGS) -O3 -pthread -o $@ $^
+
+stack: $(BUILD)/bench_calls
+	$< stack
 
 bench: $(BUILD)/bench_primitives_O2 $(BUILD)/bench_primitives_O3 $(BUILD)/bench_calls
 	$(BUILD)/bench_primitives_O2

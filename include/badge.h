@@ -26,7 +26,7 @@
  * What the caller owes, since C cannot be held to it:
  *    each pointer is valid for its length, those of uint32_t lists aligned for uint32_t;
  *    no output or lent list overlaps another list of the call;
- *    the stack has the room that is named at the call (measured on x86-64 by `make bench`, not proved).
+ *    the stack has the room that BADGE_STACK and its like name below (measured, not proved).
  *
  * Before you open a door on a verdict: an accepted transcript alone proves nothing. Its challenges stand in it, and anyone can write an
  * accepted transcript for any key. The controller itself must choose E, L and the hidden list, each after the message before it has
@@ -89,6 +89,14 @@ enum {
     BADGE_ANSWER = 8           /* numbers of the pair reader's answer */
 };
 
+/* Bytes of stack that a call takes at the most, measured on x86-64 by `make stack`. */
+enum {
+    BADGE_STACK = 94000,          /* a message, the judge */
+    BADGE_STACK_LENT = 12000,     /* the same with lent lists */
+    BADGE_STACK_PAIR = 204000,    /* the pair reader */
+    BADGE_STACK_PAIR_LENT = 122000
+};
+
 /* Level 1, the prover.
  *
  * Each call writes one message into out from place on and answers its length; every byte before the place and after the message stays.
@@ -131,9 +139,7 @@ int64_t badge_message_7(const uint8_t *key, size_t key_length, const uint8_t *se
 /* Level 2, the judge.
  *
  * 0: accepted. Else the first number that applies: 1 to 5, 12, 7, 10, 13, 14; then for each kept execution in turn 16 and 15; then 17, 18,
- * 19. It writes nothing.
- *
- * Stack: 94 KB, of which 82 KB are its own work lists. */
+ * 19. It writes nothing. */
 uint32_t badge_judge(const uint8_t *key, size_t key_length, const uint8_t *run, size_t run_length);
 
 /* Level 3, the pair reader.
@@ -165,7 +171,7 @@ int64_t badge_pair(const uint8_t *key, size_t key_length, const uint8_t *run1, s
                    uint8_t *hash2, size_t hash2_length, uint8_t *secret, size_t secret_length,
                    uint32_t *uv, size_t uv_length, uint32_t *answer, size_t answer_length);
 
-/* The same calls for firmware with little stack: the two work lists, which take 82 KB of the stack above, are lent.
+/* The same calls for firmware with little stack: the two work lists, which the calls above have on the stack (82 KB), are lent.
  *
  *    entries  for A and t, n(m + 1) numbers or more
  *    work     4mN numbers or more

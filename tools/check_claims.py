@@ -43,7 +43,8 @@ def functions():
         for file in sorted((ROOT / "crates" / crate / "src").rglob("*.rt")):
             parts = file.relative_to(ROOT / "crates" / crate / "src").with_suffix("").parts
             path = "::".join([crate] + [x for x in parts if x not in ("lib", "main", "mod")])
-            for m in re.finditer(r'^((?:#\[no_mangle\]\n)?pub (?:extern "C" )?fn (\w+).*?)^\{', file.read_text(), re.M | re.S):
+            text = file.read_text().replace("\n{}\n", "\n{\n}\n")
+            for m in re.finditer(r'^((?:#\[no_mangle\]\n)?pub (?:extern "C" )?fn (\w+).*?)(?:^| )\{$', text, re.M | re.S):
                 found[f"{path}::{m.group(2)}"] = file, m.group(1)
     return found
 

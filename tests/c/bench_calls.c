@@ -1,6 +1,9 @@
 /* The library's calls over those of the second implementation, in one run: CPU time, the best of several rounds, the two in turn, after a
- * round that does not count. How the time of ours grows with m, N and M, and the stack that each call takes. */
+ * round that does not count. How the time of ours grows with m, N and M, and the stack that each call takes.
+ *
+ *     bench_calls [stack]    stack: the stack alone; fails where it is more than badge.h says */
 #define _XOPEN_SOURCE 700
+#include "badge.h"
 #include "calls.h"
 #include "samples.h"
 
@@ -156,23 +159,35 @@ static size_t changed(enum job job, const struct lent *lent)
     return STACK - i;
 }
 
-static void stacks(void)
+static int stacks(void)
 {
     size_t none = changed(JOBS, NULL);
+    int wrong = 0;
     printf("stack, bytes                   own lists   lent lists\n");
-    for (int j = 0; j < JOBS; j++)
-        if (j != REFUSED)
-            printf("  %-26s %11zu  %11zu\n", names[j], changed((enum job)j, NULL) - none, changed((enum job)j, &lists) - none);
+    for (int j = 0; j < JOBS; j++) {
+        size_t own, lent;
+        if (j == REFUSED)
+            continue;
+        own = changed((enum job)j, NULL) - none;
+        lent = changed((enum job)j, &lists) - none;
+        printf("  %-26s %11zu  %11zu\n", names[j], own, lent);
+        if (own > (j == PAIR ? BADGE_STACK_PAIR : BADGE_STACK) || lent > (j == PAIR ? BADGE_STACK_PAIR_LENT : BADGE_STACK_LENT)) {
+            printf("  that is more than badge.h says\n");
+            wrong = 1;
+        }
+    }
+    return wrong;
 }
 
-int main(void)
+int main(int argc, char **argv)
 {
     static const uint32_t largest[6] = {2147483647, 32, 128, 32, 32, 16};
     static const uint32_t middle[6] = {65537, 16, 64, 8, 16, 8};
-    compare_key("middle", middle, 40);
-    compare_key("largest", largest, 15);
-    growth();
+    if (argc < 2 || strcmp(argv[1], "stack") != 0) {
+        compare_key("middle", middle, 40);
+        compare_key("largest", largest, 15);
+        growth();
+    }
     prepare(largest);
-    stacks();
-    return 0;
+    return stacks();
 }
