@@ -38,11 +38,11 @@ static void check(int right, const char *what)
         fail(what);
 }
 
-/* Blocks of exactly their length. */
+/* Blocks of exactly their length; an empty list is a null pointer. */
 
 static struct list block(size_t length)
 {
-    struct list l = {malloc(length), length};
+    struct list l = {length > 0 ? malloc(length) : NULL, length};
     check(l.at || length == 0, "no memory");
     if (length > 0)
         memset(l.at, FILL, length);
