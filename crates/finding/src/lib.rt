@@ -16,6 +16,7 @@ use reading::Reading;
 
 // The input at a spot, into a list of its length.
 fn show(spot: Spot, lists: &[u8], inputs: &[u8], out: &mut [u8])
+    requires { ⌜ (length (now lists) ≤ 3072) × (length (now inputs) ≤ 19632) ⌝ }
     requires { ⌜ Inside (length (now lists)) (length (now inputs)) spot ⌝ }
     requires { ⌜ length (now out) ≡ spot .length ⌝ }
     ensures { λ _. ⌜ now (out .exit) ≡ shown spot (now (lists .entry)) (now (inputs .entry)) ⌝ }
