@@ -1,10 +1,14 @@
-// The judge for C: no lists are lent, both work lists are the call's own.
+// The calls for C: the judge, and the prover's messages as the length that was written, or minus the refusal's number.
+
+pub mod code;
+pub mod lent;
+pub mod messages;
 
 ghost use mathlib.Core.Path.{_≡_};
 ghost use Rattle.refusals.specs.Number.{numberOf};
 ghost use Rattle.protocol.specs.Judge.{judge};
 
-// The first number of document 01's table that applies to a key and a transcript, or 0: accepted.
+// The first number of document 01's table that applies to a key and a transcript, or 0: accepted. Both work lists are its own.
 #[no_mangle]
 pub extern "C" fn badge_judge(key: &[u8], run: &[u8]) -> u32
     ensures { λ r. ⌜ r ≡ numberOf (judge (now (key .entry)) (now (run .entry))) ⌝ }

@@ -1,0 +1,33 @@
+use Rattle.badge.proofs.Codes.{code-is, small-1}
+use borrow.Author.Needs.{needs}
+use Rattle.badge.proofs.lent.badge_message_1_lent.Statement.{statement}
+use Rattle.badge.proofs.lent.badge_message_1_lent.Tie as tie
+use Rattle.badge.proofs.lent.badge_message_1_lent.Reads as reads
+use Rattle.badge.proofs.lent.badge_message_1_lent.Lts as lts
+use Rattle.badge.proofs.code.code.Reads as code-reads
+use Rattle.message_1.proofs.message_1.Reads as message-1-reads
+
+message-1-requires : tie.Need-message-1-requires
+message-1-requires c κs = search needs
+
+code-requires : tie.Need-code-requires
+code-requires c κs = small-1 _ _ _ _ _ _ (c .before .before .before .before .before .before .message-1 .ensures .0)
+
+same-length : tie.Need-same-length
+same-length c = search needs
+
+same-length-2 : tie.Need-same-length-2
+same-length-2 c = search needs
+
+same-length-3 : tie.Need-same-length-3
+same-length-3 c = search needs
+
+returns : tie.Need-returns
+returns c =
+    let m = c .before .before .before .before .before .before .before .message-1 .ensures in
+    (code-is (c .code .ensures) (m .0), m .1)
+
+pub badge-message-1-lent-spec : {M : Type 1} → statement M
+badge-message-1-lent-spec =
+    tie.close
+    (tie.spec message-1-requires code-requires same-length same-length-2 same-length-3 returns)

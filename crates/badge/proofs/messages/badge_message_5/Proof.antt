@@ -1,0 +1,39 @@
+use Rattle.badge.proofs.Codes.{code-is, small-5}
+use borrow.Author.Needs.{needs}
+use Rattle.badge.proofs.messages.badge_message_5.Statement.{statement}
+use Rattle.badge.proofs.messages.badge_message_5.Tie as tie
+use Rattle.badge.proofs.messages.badge_message_5.Reads as reads
+use Rattle.badge.proofs.messages.badge_message_5.Lts as lts
+use Rattle.badge.proofs.code.code.Reads as code-reads
+use Rattle.message_5.proofs.message_5.Reads as message-5-reads
+
+slice-aggregate-message-5 : tie.Need-slice-aggregate-message-5
+slice-aggregate-message-5 c = search needs
+
+slice-aggregate-message-5-2 : tie.Need-slice-aggregate-message-5-2
+slice-aggregate-message-5-2 c = search needs
+
+message-5-requires : tie.Need-message-5-requires
+message-5-requires c κs = search needs
+
+code-requires : tie.Need-code-requires
+code-requires c κs = small-5 _ _ _ _ _ _ _ _ _ _ (c .before .before .before .before .message-5 .ensures .0)
+
+same-length : tie.Need-same-length
+same-length c = search needs
+
+returns : tie.Need-returns
+returns c =
+    let m = c .before .before .before .before .before .message-5 .ensures in
+    (code-is (c .code .ensures) (m .0), m .1)
+
+pub badge-message-5-spec : {M : Type 1} → statement M
+badge-message-5-spec =
+    tie.close
+    (tie.spec
+    slice-aggregate-message-5
+    slice-aggregate-message-5-2
+    message-5-requires
+    code-requires
+    same-length
+    returns)

@@ -1,0 +1,15 @@
+-- An answer as one number: the length that was written, or minus the refusal's number.
+-- Assumes nothing.
+use Prim.Native.Nat.{ℕ}
+use lib.IntN.{ℤ, pos, negℤ}
+use Rattle.prover.specs.declared.Answer.{Answer}
+use Rattle.prover.specs.declared.Answer.the-variants.{Length, Refused}
+
+abbrev pub codeOf : Answer → ℤ
+codeOf (Length n) = pos n
+codeOf (Refused n) = negℤ (pos n)
+
+-- how many bytes were written
+abbrev pub lengthOf : Answer → ℕ
+lengthOf (Length n) = n
+lengthOf (Refused n) = 0

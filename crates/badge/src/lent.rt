@@ -1,0 +1,88 @@
+// The calls over lent lists: 4mN numbers for an execution, n(m + 1) for A and t.
+
+ghost use mathlib.Core.Path.{_≡_};
+ghost use lib.ListN.{length};
+ghost use Rattle.protocol.specs.Key.{keyOf};
+ghost use Rattle.protocol.specs.Prover.{message1, message3, message5, verdict1, verdict3, verdict5, output};
+ghost use Rattle.prover.specs.Answers.{answerOf};
+ghost use Rattle.badge.specs.Code.{codeOf};
+use crate::code::code;
+
+// Message 1 into the output from a place on.
+#[no_mangle]
+pub extern "C" fn badge_message_1_lent(
+    key: &[u8],
+    seeds: &[u8],
+    out: &mut [u8],
+    place: u64,
+    entries: &mut [u32],
+    work: &mut [u32],
+) -> i64
+    ensures { λ r. ⌜ r ≡ codeOf (answerOf (verdict1 (now (key .entry)) (now (seeds .entry)) (length (now (out .entry))) place (length (now (work .entry))) (length (now (entries .entry)))) (message1 (keyOf (now (key .entry))) (now (seeds .entry)))) ⌝ }
+    ensures { λ _. ⌜ now (out .exit) ≡ output (verdict1 (now (key .entry)) (now (seeds .entry)) (length (now (out .entry))) place (length (now (work .entry))) (length (now (entries .entry)))) (message1 (keyOf (now (key .entry))) (now (seeds .entry))) place (now (out .entry)) ⌝ }
+{
+    let answer = message_1::message_1(key, seeds, out, place as usize, entries, work);
+    code(answer)
+}
+
+// Message 3 into the output from a place on.
+#[no_mangle]
+pub extern "C" fn badge_message_3_lent(
+    key: &[u8],
+    seeds: &[u8],
+    secret: &[u8],
+    e: &[u8],
+    kappa: &[u8],
+    out: &mut [u8],
+    place: u64,
+    entries: &mut [u32],
+    work: &mut [u32],
+) -> i64
+    ensures { λ r. ⌜ r ≡ codeOf (answerOf (verdict3 (now (key .entry)) (now (seeds .entry)) (now (secret .entry)) (now (e .entry)) (now (kappa .entry)) (length (now (out .entry))) place (length (now (work .entry))) (length (now (entries .entry)))) (message3 (keyOf (now (key .entry))) (now (seeds .entry)) (now (secret .entry)) (now (e .entry)) (now (kappa .entry)))) ⌝ }
+    ensures { λ _. ⌜ now (out .exit) ≡ output (verdict3 (now (key .entry)) (now (seeds .entry)) (now (secret .entry)) (now (e .entry)) (now (kappa .entry)) (length (now (out .entry))) place (length (now (work .entry))) (length (now (entries .entry)))) (message3 (keyOf (now (key .entry))) (now (seeds .entry)) (now (secret .entry)) (now (e .entry)) (now (kappa .entry))) place (now (out .entry)) ⌝ }
+{
+    let answer = message_3::message_3(
+        key,
+        seeds,
+        secret,
+        e,
+        kappa,
+        out,
+        place as usize,
+        entries,
+        work,
+    );
+    code(answer)
+}
+
+// Message 5 into the output from a place on.
+#[no_mangle]
+pub extern "C" fn badge_message_5_lent(
+    key: &[u8],
+    seeds: &[u8],
+    secret: &[u8],
+    e: &[u8],
+    kappa: &[u8],
+    seed: &[u8],
+    out: &mut [u8],
+    place: u64,
+    entries: &mut [u32],
+    work: &mut [u32],
+) -> i64
+    ensures { λ r. ⌜ r ≡ codeOf (answerOf (verdict5 (now (key .entry)) (now (seeds .entry)) (now (secret .entry)) (now (e .entry)) (now (kappa .entry)) (now (seed .entry)) (length (now (out .entry))) place (length (now (work .entry))) (length (now (entries .entry)))) (message5 (keyOf (now (key .entry))) (now (seeds .entry)) (now (secret .entry)) (now (e .entry)) (now (kappa .entry)) (now (seed .entry)))) ⌝ }
+    ensures { λ _. ⌜ now (out .exit) ≡ output (verdict5 (now (key .entry)) (now (seeds .entry)) (now (secret .entry)) (now (e .entry)) (now (kappa .entry)) (now (seed .entry)) (length (now (out .entry))) place (length (now (work .entry))) (length (now (entries .entry)))) (message5 (keyOf (now (key .entry))) (now (seeds .entry)) (now (secret .entry)) (now (e .entry)) (now (kappa .entry)) (now (seed .entry))) place (now (out .entry)) ⌝ }
+{
+    let answer = message_5::message_5(
+        key,
+        seeds,
+        secret,
+        e,
+        kappa,
+        seed,
+        out,
+        place as usize,
+        entries,
+        work,
+    );
+    code(answer)
+}
