@@ -22,7 +22,9 @@ slice-aggregate-copy : tie.Need-slice-aggregate-copy
 slice-aggregate-copy c = sym (length-take-le 16 (c .before .before .before .before .before .before .before .before .before .before .before .args .out .now) (omega (arith, c .before .before .before .before .before .before .before .before .before .before .before .pre .1 .1 .1 .1 .1 .1 .1 .1 .1)))
 
 copy-requires : tie.Need-copy-requires
-copy-requires c κs = c .before .before .before .before .before .before .before .before .before .before .before .pre .1 .1 .1 .1 .0 ∙ sym (length-take-le 16 (c .before .before .before .before .before .before .before .before .before .before .before .args .out .now) (omega (arith, c .before .before .before .before .before .before .before .before .before .before .before .pre .1 .1 .1 .1 .1 .1 .1 .1 .1)))
+copy-requires c κs =
+    let p = c .before .before .before .before .before .before .before .before .before .before .before .pre in
+    omega (arith, p .1 .1 .1 .1 .0, p .1 .1 .1 .1 .1 .0, length-take-le 16 (c .before .before .before .before .before .before .before .before .before .before .before .args .out .now) (omega (arith, p .1 .1 .1 .1 .1 .1 .1 .1 .1)))
 
 array-borrow-prefix-leaves : tie.Need-array-borrow-prefix-leaves
 array-borrow-prefix-leaves c = search needs

@@ -31,7 +31,7 @@ slice-aggregate-put-alphas c = sym (length-take-le _ _ (omega arith))
 put-alphas-requires : tie.Need-put-alphas-requires
 put-alphas-requires c κs =
     let p = c .before .before .before .pre in
-    (p .0, (p .1 .0, (p .1 .1 .0, (p .1 .1 .1 .0, length-take-le _ _ (omega arith)))))
+    (p .0, (omega (arith, p .1 .0), (p .1 .1 .0, (p .1 .1 .1 .0, length-take-le _ _ (omega arith)))))
 
 sub-put32 : tie.Need-sub-put32
 sub-put32 c = search needs
