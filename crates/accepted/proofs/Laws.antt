@@ -23,14 +23,13 @@ numbered-cat (suc n) f h = numbered-append (cat n f) (f n) (numbered-cat n f h) 
 numbered-run : (K : Key) (x : List ℕ) → Numbered (runChecks K x)
 unfolding runChecks partsChecks formChecks executionChecks hashChecks
 numbered-run K x =
-    let P = partsOf x in
-    (
+    let P = partsOf x in (
       omega arith,
       numbered-append (formChecks K P ++ cat (K .M) (λ e. pick (opened (P .p2) e) [] (executionChecks K P e))) (hashChecks K P)
-      (numbered-append (formChecks K P) (cat (K .M) (λ e. pick (opened (P .p2) e) [] (executionChecks K P e)))
-      (omega arith, (omega arith, (omega arith, (omega arith, tt))))
-      (numbered-cat (K .M) (λ e. pick (opened (P .p2) e) [] (executionChecks K P e)) (λ e. each (opened (P .p2) e) (executionChecks K P e) (omega arith, (omega arith, tt)))))
-      (omega arith, (omega arith, (omega arith, tt))),
+          (numbered-append (formChecks K P) (cat (K .M) (λ e. pick (opened (P .p2) e) [] (executionChecks K P e)))
+          (omega arith, (omega arith, (omega arith, (omega arith, tt))))
+          (numbered-cat (K .M) (λ e. pick (opened (P .p2) e) [] (executionChecks K P e)) (λ e. each (opened (P .p2) e) (executionChecks K P e) (omega arith, (omega arith, tt)))))
+          (omega arith, (omega arith, (omega arith, tt))),
     )
   where
     each : (t : Bool) (l : List Check) → Numbered l → Numbered (pick t [] l)

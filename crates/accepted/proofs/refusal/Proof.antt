@@ -108,8 +108,7 @@ same-length-8 c = search needs
 -- src/lib.rt:47:9
 returns-3 : tie.Need-returns-3
 returns-3 c =
-    let s = c .before .before .before .before .before .before .before .before .before .before .before .before .before .before .before .before .before .before .before .before .before .before .before .before in
-    (
+    let s = c .before .before .before .before .before .before .before .before .before .before .before .before .before .before .before .before .before .before .before .before .before .before .before .before in (
       fronts-differ (keyAt s) (oneAt s) (twoAt s) (one-good (c .before .before .before .before .before .before .before .before .before .before)) (two-good (c .before .before)) (sym (c .before .same-front .ensures (keyAt s)) ∙ not-true _ (c .if3 .taken)),
       ((λ z. absurd (let w : ⊥ = omega (arith, z) in w)), ((λ z. absurd (let w : ⊥ = omega (arith, z) in w)), (c .before .before .before .before .before .before .before .before .before .before .before .before .before .before .before .judge-run .ensures .1 .1 .0, c .before .before .before .before .before .before .before .judge-run2 .ensures .1 .1 .0))),
     )
@@ -133,8 +132,7 @@ same-length-11 c = search needs
 -- src/lib.rt:50:9
 returns-4 : tie.Need-returns-4
 returns-4 c =
-    let s = c .before .before .before .before .before .before .before .before .before .before .before .before .before .before .before .before .before .before .before .before .before .before .before .before .before .before in
-    (
+    let s = c .before .before .before .before .before .before .before .before .before .before .before .before .before .before .before .before .before .before .before .before .before .before .before .before .before .before in (
       hidden-equal (keyAt s) (oneAt s) (twoAt s) (one-good (c .before .before .before .before .before .before .before .before .before .before .before .before)) (two-good (c .before .before .before .before)) (sym (c .before .before .before .same-front .ensures (keyAt s)) ∙ not-false _ (c .before .before .if3 .left)) (sym (c .before .same-hidden .ensures) ∙ c .if4 .taken),
       ((λ z. absurd (let w : ⊥ = omega (arith, z) in w)), ((λ z. absurd (let w : ⊥ = omega (arith, z) in w)), (c .before .before .before .before .before .before .before .before .before .before .before .before .before .before .before .before .before .judge-run .ensures .1 .1 .0, c .before .before .before .before .before .before .before .before .before .judge-run2 .ensures .1 .1 .0))),
     )
@@ -154,8 +152,7 @@ same-length-14 c = search needs
 -- src/lib.rt:20:1
 returns-5 : tie.Need-returns-5
 returns-5 c =
-    let s = c .before .before .before .before .before .before .before .before .before .before .before .before .before .before .before .before .before .before .before .before .before .before .before .before .before .before in
-    (
+    let s = c .before .before .before .before .before .before .before .before .before .before .before .before .before .before .before .before .before .before .before .before .before .before .before .before .before .before in (
       forks (keyAt s) (oneAt s) (twoAt s) (one-good (c .before .before .before .before .before .before .before .before .before .before .before .before)) (two-good (c .before .before .before .before)) (sym (c .before .before .before .same-front .ensures (keyAt s)) ∙ not-false _ (c .before .before .if3 .left)) (sym (c .before .same-hidden .ensures) ∙ c .if4 .left),
       (
         (λ z. c .before .before .before .before .before .before .before .before .before .before .before .before .before .before .before .before .before .judge-run .ensures .1 .0 (c .before .before .before .before .before .before .before .before .before .before .before .before .if1 .left)),

@@ -65,8 +65,7 @@ slice-aggregate-show c = sym (length-take-le (c .before .before .before .first-d
 show-requires : tie.Need-show-requires
 show-requires c κs =
     let s = c .before .before .before .before .before .before .before .before .before .before .before .before .before .before in
-    let p = s .pre in
-    (
+    let p = s .pre in (
       (omega (arith, p .1 .1 .0, p .0 .M-most), omega (arith, p .1 .1 .1 .1 .0, size-most (s .args .k .m) (s .args .k .parties) (p .0 .m-most) (p .0 .N-most))),
       (in-one (c .before .before .before), length-take-le (c .before .before .before .first-difference .result .length) (s .args .hash1 .now) (omega (arith, c .before .before .before .first-difference .ensures .1 .short, p .1 .1 .1 .1 .1 .1 .1 .1 .0))),
     )
@@ -83,8 +82,7 @@ slice-aggregate-show-2 c = sym (length-take-le (c .before .before .before .befor
 show-requires-2 : tie.Need-show-requires-2
 show-requires-2 c κs =
     let s = c .before .before .before .before .before .before .before .before .before .before .before .before .before .before .before .before .before .before in
-    let p = s .pre in
-    (
+    let p = s .pre in (
       (omega (arith, p .1 .1 .1 .0, p .0 .M-most), omega (arith, p .1 .1 .1 .1 .1 .0, size-most (s .args .k .m) (s .args .k .parties) (p .0 .m-most) (p .0 .N-most))),
       (in-two (c .before .before .before .before .before .before .before), length-take-le (c .before .before .before .before .before .before .before .first-difference .result .length) (s .args .hash2 .now) (omega (arith, c .before .before .before .before .before .before .before .first-difference .ensures .1 .short, p .1 .1 .1 .1 .1 .1 .1 .1 .1 .0))),
     )

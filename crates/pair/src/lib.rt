@@ -1,0 +1,3 @@
+// The pair reader (document 01, Pair reader, level 3): what must lie behind two transcripts.
+
+pub mod place;
