@@ -4,8 +4,8 @@ use Prim.Native.Nat.{_+_, _*_, _-_, _≤_}
 use native.Mathlib.Omega.{arith}
 use lib.ListN.{length}
 use lib.Seq.{length-take-le}
-use Rattle.lists.specs.CatLaws.{nums-length, le4-length}
-use Rattle.response.specs.Replies.{numbersOf, alphaShare}
+use Rattle.lists.specs.CatLaws.{le4-length}
+use Rattle.response.specs.Replies.{numbersOf}
 use Rattle.response.proofs.Laws.{three-parts}
 use borrow.Author.Needs.{needs}
 use Rattle.response.proofs.reply.put_numbers.Statement.{statement}
@@ -67,7 +67,7 @@ returns c =
     let alphas = c .before .before .before .before .before .before .before .before .before .before .put-alphas .ensures in
     let output = c .before .before .before .before .before .before .put32 .ensures in
     three-parts (a .out .now) (c .before .before .before .before .before .before .before .before .before .before .put-alphas .last .1 .1 .1 .1 .1 .0) (c .before .before .before .before .before .before .put32 .last .1 .0) (c .before .before .put-last .last .1 .1 .1 .1 .0) (4 * a .m) 4
-    (ap length alphas ∙ nums-length (a .m) (alphaShare (a .q) (a .m) (a .work .now) (a .hidden))) (ap length output ∙ le4-length (a .o)) alphas output (c .before .before .put-last .ensures)
+    (c .before .before .before .before .before .before .before .before .before .before .put-alphas .kept .1 .1 .1 .1 .1 .0 ∙ length-take-le (4 * a .m) (a .out .now) (omega (arith, c .before .before .before .before .before .before .before .before .before .before .before .before .before .before .pre .1 .1 .1 .1))) (ap length output ∙ le4-length (a .o)) alphas output (c .before .before .put-last .ensures)
 
 pub put-numbers-spec : {M : Type 1} → statement M
 put-numbers-spec =

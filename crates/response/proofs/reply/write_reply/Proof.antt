@@ -4,7 +4,6 @@ use Prim.Native.Nat.{_+_, _*_, _-_, _≤_}
 use native.Mathlib.Omega.{arith}
 use lib.ListN.{length}
 use lib.Seq.{length-take-le}
-use Rattle.tree.specs.TreeLaws.{opening-length}
 use Rattle.response.specs.Replies.{replyOf}
 use Rattle.response.proofs.Laws.{three-parts, third-long}
 use borrow.Author.Needs.{needs}
@@ -76,7 +75,7 @@ put-numbers-requires c κs =
           (
             p .1 .1 .1 .1 .1 .1 .1 .0,
             third-long (a .out .now) (c .before .before .before .before .before .before .before .before .before .before .open-all-but .last .1 .1 .1 .0) (c .before .before .before .copy .last .1 .0) (16 * a .depth) 32 _
-                (ap length (c .before .before .before .before .before .before .before .before .before .before .open-all-but .ensures) ∙ opening-length (a .depth) (a .master .now) (a .hidden))
+                (c .before .before .before .before .before .before .before .before .before .before .open-all-but .kept .1 .1 .1 .0 ∙ length-take-le (16 * a .depth) (a .out .now) (omega (arith, p .1 .1 .1 .1 .1 .1 .1 .1)))
                 (ap length (c .before .before .before .copy .ensures) ∙ omega (arith, slice-aggregate-copy (c .before .before .before .before .before))) (p .1 .1 .1 .1 .1 .1 .1 .1),
           ),
         ),
@@ -93,7 +92,7 @@ returns c =
     let seeds = c .before .before .before .before .before .before .before .before .before .before .before .before .before .open-all-but .ensures in
     let gamma = c .before .before .before .before .before .before .copy .ensures in
     three-parts (a .out .now) (c .before .before .before .before .before .before .before .before .before .before .before .before .before .open-all-but .last .1 .1 .1 .0) (c .before .before .before .before .before .before .copy .last .1 .0) (c .before .before .put-numbers .last .1 .1 .1 .1 .1 .1 .0) (16 * a .depth) 32
-    (ap length seeds ∙ opening-length (a .depth) (a .master .now) (a .hidden)) (ap length gamma ∙ omega (arith, slice-aggregate-copy (c .before .before .before .before .before .before .before .before))) seeds (gamma ∙ c .before .before .before .before .before .before .before .before .before .gamma-at .ensures) (c .before .before .put-numbers .ensures)
+    (c .before .before .before .before .before .before .before .before .before .before .before .before .before .open-all-but .kept .1 .1 .1 .0 ∙ length-take-le (16 * a .depth) (a .out .now) (omega (arith, c .before .before .before .before .before .before .before .before .before .before .before .before .before .before .before .before .before .before .before .pre .1 .1 .1 .1 .1 .1 .1 .1))) (ap length gamma ∙ omega (arith, slice-aggregate-copy (c .before .before .before .before .before .before .before .before))) seeds (gamma ∙ c .before .before .before .before .before .before .before .before .before .gamma-at .ensures) (c .before .before .put-numbers .ensures)
 
 pub write-reply-spec : {M : Type 1} → statement M
 write-reply-spec =
