@@ -3,7 +3,7 @@
 ghost use mathlib.Core.Path.{_≡_};
 ghost use lib.ListN.{length};
 ghost use Rattle.protocol.specs.Key.{keyOf};
-ghost use Rattle.protocol.specs.Prover.{message1, message3, message5, verdict1, verdict3, verdict5, output};
+ghost use Rattle.protocol.specs.Prover.{message1, message3, message5, message7, verdict1, verdict3, verdict5, verdict7, output};
 ghost use Rattle.prover.specs.Answers.{answerOf};
 ghost use Rattle.badge.specs.Code.{codeOf};
 use crate::code::code;
@@ -79,6 +79,40 @@ pub extern "C" fn badge_message_5_lent(
         e,
         kappa,
         seed,
+        out,
+        place as usize,
+        entries,
+        work,
+    );
+    code(answer)
+}
+
+// Message 7 into the output from a place on.
+#[no_mangle]
+pub extern "C" fn badge_message_7_lent(
+    key: &[u8],
+    seeds: &[u8],
+    secret: &[u8],
+    e: &[u8],
+    kappa: &[u8],
+    seed: &[u8],
+    hidden: &[u8],
+    out: &mut [u8],
+    place: u64,
+    entries: &mut [u32],
+    work: &mut [u32],
+) -> i64
+    ensures { λ r. ⌜ r ≡ codeOf (answerOf (verdict7 (now (key .entry)) (now (seeds .entry)) (now (secret .entry)) (now (e .entry)) (now (kappa .entry)) (now (seed .entry)) (now (hidden .entry)) (length (now (out .entry))) place (length (now (work .entry))) (length (now (entries .entry)))) (message7 (keyOf (now (key .entry))) (now (seeds .entry)) (now (secret .entry)) (now (e .entry)) (now (kappa .entry)) (now (seed .entry)) (now (hidden .entry)))) ⌝ }
+    ensures { λ _. ⌜ now (out .exit) ≡ output (verdict7 (now (key .entry)) (now (seeds .entry)) (now (secret .entry)) (now (e .entry)) (now (kappa .entry)) (now (seed .entry)) (now (hidden .entry)) (length (now (out .entry))) place (length (now (work .entry))) (length (now (entries .entry)))) (message7 (keyOf (now (key .entry))) (now (seeds .entry)) (now (secret .entry)) (now (e .entry)) (now (kappa .entry)) (now (seed .entry)) (now (hidden .entry))) place (now (out .entry)) ⌝ }
+{
+    let answer = message_7::message_7(
+        key,
+        seeds,
+        secret,
+        e,
+        kappa,
+        seed,
+        hidden,
         out,
         place as usize,
         entries,

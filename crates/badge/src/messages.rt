@@ -3,7 +3,7 @@
 ghost use mathlib.Core.Path.{_≡_};
 ghost use lib.ListN.{length};
 ghost use Rattle.protocol.specs.Key.{keyOf};
-ghost use Rattle.protocol.specs.Prover.{message1, message3, message5, verdict1, verdict3, verdict5, output};
+ghost use Rattle.protocol.specs.Prover.{message1, message3, message5, message7, verdict1, verdict3, verdict5, verdict7, output};
 ghost use Rattle.prover.specs.Answers.{answerOf};
 ghost use Rattle.badge.specs.Code.{codeOf};
 use crate::code::code;
@@ -74,6 +74,40 @@ pub extern "C" fn badge_message_5(
         e,
         kappa,
         seed,
+        out,
+        place as usize,
+        &mut entries,
+        &mut work,
+    );
+    code(answer)
+}
+
+// Message 7 into the output from a place on.
+#[no_mangle]
+pub extern "C" fn badge_message_7(
+    key: &[u8],
+    seeds: &[u8],
+    secret: &[u8],
+    e: &[u8],
+    kappa: &[u8],
+    seed: &[u8],
+    hidden: &[u8],
+    out: &mut [u8],
+    place: u64,
+) -> i64
+    ensures { λ r. ⌜ r ≡ codeOf (answerOf (verdict7 (now (key .entry)) (now (seeds .entry)) (now (secret .entry)) (now (e .entry)) (now (kappa .entry)) (now (seed .entry)) (now (hidden .entry)) (length (now (out .entry))) place 16384 4128) (message7 (keyOf (now (key .entry))) (now (seeds .entry)) (now (secret .entry)) (now (e .entry)) (now (kappa .entry)) (now (seed .entry)) (now (hidden .entry)))) ⌝ }
+    ensures { λ _. ⌜ now (out .exit) ≡ output (verdict7 (now (key .entry)) (now (seeds .entry)) (now (secret .entry)) (now (e .entry)) (now (kappa .entry)) (now (seed .entry)) (now (hidden .entry)) (length (now (out .entry))) place 16384 4128) (message7 (keyOf (now (key .entry))) (now (seeds .entry)) (now (secret .entry)) (now (e .entry)) (now (kappa .entry)) (now (seed .entry)) (now (hidden .entry))) place (now (out .entry)) ⌝ }
+{
+    let mut entries = [0u32; 4128];
+    let mut work = [0u32; 16384];
+    let answer = message_7::message_7(
+        key,
+        seeds,
+        secret,
+        e,
+        kappa,
+        seed,
+        hidden,
         out,
         place as usize,
         &mut entries,
