@@ -4,18 +4,20 @@ use mathlib.Core.Path.{_≡_, refl, sym, ap, _∙_, subst}
 use mathlib.Core.List.{List}
 use Prim.Native.Nat.{ℕ, _+_, _*_, _-_, _/_, _%_, _^_, _≤_, _<_}
 use native.Mathlib.Decide.{ℕ-discrete, decLt}
-use native.Mathlib.Nat.{div-eq-of-lt, lt-of-lt-of-le}
+use native.Mathlib.Nat.{div-eq-of-lt, lt-of-lt-of-le, div-div-eq-div-mul, mod-lt}
 use native.Mathlib.Numerals.{add-one}
 use native.Mathlib.Omega.{arith}
+use borrow.Author.Count.{below-more}
 use lib.Bits.{bitXor}
 use lib.ListN.{length, getD, set, length-set}
-use lib.Pow.{pow-mono}
+use lib.Pow.{pow-mono, pow-add}
 use lib.Seq.{getD-set-same, getD-set-other}
 use Rattle.lists.specs.Tab.{tab, tab-length, tab-at, list-is-tab, Filling, start, more, counted, done}
+use Rattle.lists.specs.Test.{same}
 use Rattle.sbox.specs.Sbox.{sboxOf}
 use Rattle.aes.specs.Fips197.{subBytes, shiftRows, mixByte, mixColumns, addKey, rounds, cipher}
-use Rattle.aes.proofs.Laws.{sub-shift-at, Column, mixed}
-use Rattle.aes_wide.specs.Wide.{lane, Lanes, counter}
+use Rattle.aes.proofs.Laws.{sub-shift-at, mix-at, Column, mixed}
+use Rattle.aes_wide.specs.Wide.{lane, Lanes, Flat, Patched, counter}
 
 lane-at : (s : List ℕ) (l p q : ℕ) → p < 16 → 16 * p + l ≡ q → getD (lane s l) p 0 ≡ getD s q 0
 unfolding lane
@@ -175,6 +177,13 @@ sub-value s p l x h e =
     ∙ ap sboxOf (sym (lane-at s l ((p + 4 * (p % 4)) % 16) (16 * ((p + 4 * (p % 4)) % 16) + l) place refl))
     ∙ sym (sub-shift-at (lane s l) p h)
 
+pub first-value : (s : List ℕ) (p x : ℕ) → p < 16 → x ≡ sboxOf (getD s (16 * ((p + 4 * (p % 4)) % 16)) 0) → x ≡ getD (shiftRows (subBytes (lane s 0))) p 0
+first-value s p x h e =
+    let place : (p + 4 * (p % 4)) % 16 < 16 = omega arith in
+    e
+    ∙ ap sboxOf (sym (lane-at s 0 ((p + 4 * (p % 4)) % 16) (16 * ((p + 4 * (p % 4)) % 16)) place (omega arith)))
+    ∙ sym (sub-shift-at (lane s 0) p h)
+
 pub last-value : (w s : List ℕ) (p l x : ℕ) → p < 16 → x ≡ sboxOf (getD s (16 * ((p + 4 * (p % 4)) % 16) + l) 0)
     → bitXor x (getD w (160 + p) 0) ≡ getD (addKey w 10 (shiftRows (subBytes (lane s l)))) p 0
 last-value w s p l x h e =
@@ -230,6 +239,188 @@ module _ (w s r : List ℕ) (n c l m0 m1 m2 m3 : ℕ) (hc : c < 4) (hl : l < 16)
       (value m2 (4 * c + 1 + 1) (16 * n + (4 * c + 2)) (64 * c + l + 32) (omega arith) (omega arith) (omega arith) (e2 ∙ col .third))
       (value m3 (4 * c + 1 + 1 + 1) (16 * n + (4 * c + 3)) (64 * c + l + 48) (omega arith) (omega arith) (omega arith) (e3 ∙ col .fourth))
 
+-- ---- blocks that differ in few bytes
+
+pub patch-none : (g : ℕ → List ℕ) (p : ℕ) (r : List ℕ) → length r ≡ 256 → Patched g p 0 r r
+patch-none g p r long = record { long = long; row = λ l h. let z : ⊥ = omega arith in absurd z; rest = λ k other. refl }
+
+pub patch-more : {g : ℕ → List ℕ} {p n : ℕ} {r₀ r : List ℕ} {v : ℕ} → Patched g p n r₀ r → p < 16 → n < 16 → v ≡ getD (g n) p 0
+    → Patched g p (n + 1) r₀ (set r (16 * p + n) v)
+patch-more {g} {p} {n} {r₀} {r} {v} so hp hn e =
+    let long : length r ≡ 256 = so .long in
+    record {
+      long = simp length-set (so .long);
+      row =
+          below-more (λ l. getD (set r (16 * p + n) v) (16 * p + l) 0 ≡ getD (g l) p 0) n
+          (λ l h. getD-set-other r (16 * p + n) (16 * p + l) v 0 (λ same. let z : ⊥ = omega arith in z) ∙ so .row l h)
+          (getD-set-same r (16 * p + n) v 0 (omega arith) ∙ e);
+      rest = λ k other. getD-set-other r (16 * p + n) k v 0 (λ same. let here : k / 16 ≡ p = omega arith in other here) ∙ so .rest k other;
+    }
+
+pub patch-end : {g : ℕ → List ℕ} {p n : ℕ} {r₀ r : List ℕ} → Patched g p n r₀ r → n ≡ 16 → Patched g p 16 r₀ r
+patch-end {g} {p} {n} {r₀} {r} so e = subst (λ (k : ℕ). Patched g p k r₀ r) e so
+
+-- Byte p of each block of r is that of g.
+pub record Right (g : ℕ → List ℕ) (r : List ℕ) (p : ℕ) : Type 0 where
+  pub byte : (l : ℕ) → l < 16 → getD r (16 * p + l) 0 ≡ getD (g l) p 0
+
+pub right-patched : {g : ℕ → List ℕ} {r₀ r : List ℕ} (p : ℕ) {q : ℕ} → Patched g p 16 r₀ r → q ≡ p → Right g r q
+right-patched {g} {r₀} {r} p {q} so e = subst (λ (k : ℕ). Right g r k) (sym e) (record { byte = so .row })
+
+pub right-kept : {g : ℕ → List ℕ} {r₀ r : List ℕ} (p : ℕ) {q : ℕ} → Patched g p 16 r₀ r → (q ≡ p → ⊥) → Right g r₀ q → Right g r q
+right-kept {g} {r₀} {r} p {q} so other right =
+    record { byte = λ l h. so .rest (16 * q + l) (λ e. let same : q ≡ p = omega arith in other same) ∙ right .byte l h }
+
+pub right-all : {g : ℕ → List ℕ} {r : List ℕ} → length r ≡ 256 → ((l : ℕ) → length (g l) ≡ 16) → ((p : ℕ) → p < 16 → Right g r p) → Lanes r g
+unfolding lane
+right-all {g} {r} long size right =
+    record {
+      long = long;
+      each = λ l h. sym (list-is-tab 16 (g l) (λ p. getD r (16 * p + l) 0) (size l) (λ p q. sym (right p q .byte l h)));
+    }
+
+-- What a step writes from a byte that is the same in each block.
+pub right-first : (s r : List ℕ) (p : ℕ) → p < 16 → Lanes r (λ l. shiftRows (subBytes (lane s 0))) → Flat s ((p + 4 * (p % 4)) % 16)
+    → Right (λ l. shiftRows (subBytes (lane s l))) r p
+right-first s r p h first flat =
+    record {
+      byte =
+          λ l hl.
+          sym (lane-at r l p (16 * p + l) h refl)
+          ∙ ap (λ x. getD x p 0) (first .each l hl)
+          ∙ sub-shift-at (lane s 0) p h
+          ∙ ap sboxOf (sym (flat .equal l hl))
+          ∙ sym (sub-shift-at (lane s l) p h);
+    }
+
+-- Where ShiftRows takes byte p from, and back.
+back : (p q : ℕ) → p < 16 → (p + 4 * (p % 4)) % 16 ≡ q → (q + 12 * (q % 4)) % 16 ≡ p
+back p q h e =
+    subst (λ (m : ℕ). (m + 12 * (m % 4)) % 16 ≡ p) e
+    (same (λ k. ((k + 4 * (k % 4)) % 16 + 12 * ((k + 4 * (k % 4)) % 16 % 4)) % 16) (λ k. k) 16 tt p h)
+
+below-15 : (q : ℕ) → q < 16 → (q ≡ 15 → ⊥) → q < 15
+below-15 q h n = omega arith
+
+from-4 : (q : ℕ) → (q ≡ 0 → ⊥) → (q ≡ 1 → ⊥) → (q ≡ 2 → ⊥) → (q ≡ 3 → ⊥) → 4 ≤ q
+from-4 q n0 n1 n2 n3 = omega arith
+
+not-15 : (p : ℕ) → p < 16 → (p ≡ 3 → ⊥) → (p + 4 * (p % 4)) % 16 < 15
+not-15 p h n = below-15 ((p + 4 * (p % 4)) % 16) (mod-lt (p + 4 * (p % 4)) (omega arith)) (λ e. n (sym (back p 15 h e)))
+
+pub one-right : (s r₀ r : List ℕ) → ((p : ℕ) → p < 15 → Flat s p) → Lanes r₀ (λ l. shiftRows (subBytes (lane s 0)))
+    → Patched (λ l. shiftRows (subBytes (lane s l))) 3 16 r₀ r → Lanes r (λ l. shiftRows (subBytes (lane s l)))
+one-right s r₀ r flat first patch =
+    right-all (patch .long) (λ l. sub-size (subBytes (lane s l)))
+    (λ p h.
+    elim (ℕ-discrete p 3) [
+      | yes here ↦ right-patched 3 patch here
+      | no other ↦ right-kept 3 patch other (right-first s r₀ p h first (flat ((p + 4 * (p % 4)) % 16) (not-15 p h other)))
+    ])
+
+from-four : (p : ℕ) → p < 16 → (p ≡ 0 → ⊥) → (p ≡ 13 → ⊥) → (p ≡ 10 → ⊥) → (p ≡ 7 → ⊥) → 4 ≤ (p + 4 * (p % 4)) % 16
+from-four p h n0 n1 n2 n3 =
+    from-4 ((p + 4 * (p % 4)) % 16) (λ e. n0 (sym (back p 0 h e))) (λ e. n1 (sym (back p 1 h e))) (λ e. n2 (sym (back p 2 h e))) (λ e. n3 (sym (back p 3 h e)))
+
+pub four-right : (s r₀ r1 r2 r3 r : List ℕ) → ((p : ℕ) → 4 ≤ p → p < 16 → Flat s p) → Lanes r₀ (λ l. shiftRows (subBytes (lane s 0)))
+    → Patched (λ l. shiftRows (subBytes (lane s l))) 0 16 r₀ r1 → Patched (λ l. shiftRows (subBytes (lane s l))) 13 16 r1 r2
+    → Patched (λ l. shiftRows (subBytes (lane s l))) 10 16 r2 r3 → Patched (λ l. shiftRows (subBytes (lane s l))) 7 16 r3 r
+    → Lanes r (λ l. shiftRows (subBytes (lane s l)))
+four-right s r₀ r1 r2 r3 r flat first p0 p1 p2 p3 =
+    right-all (p3 .long) (λ l. sub-size (subBytes (lane s l)))
+    (λ p h.
+    elim (ℕ-discrete p 7) [
+      | yes here ↦ right-patched 7 p3 here
+      | no n3 ↦
+          right-kept 7 p3 n3
+          (elim (ℕ-discrete p 10) [
+            | yes here ↦ right-patched 10 p2 here
+            | no n2 ↦
+                right-kept 10 p2 n2
+                (elim (ℕ-discrete p 13) [
+                  | yes here ↦ right-patched 13 p1 here
+                  | no n1 ↦
+                      right-kept 13 p1 n1
+                      (elim (ℕ-discrete p 0) [
+                        | yes here ↦ right-patched 0 p0 here
+                        | no n0 ↦
+                            right-kept 0 p0 n0
+                            (right-first s r₀ p h first (flat ((p + 4 * (p % 4)) % 16) (from-four p h n0 n1 n2 n3) (mod-lt (p + 4 * (p % 4)) (omega arith))))
+                      ])
+                ])
+          ])
+    ])
+
+high-same : (j l p : ℕ) → j % 256 < 241 → l < 16 → p < 15 → (j + l) / 2 ^ (8 * (15 - p)) ≡ (j + 0) / 2 ^ (8 * (15 - p))
+high-same j l p hj hl hp =
+    let split : 8 * (15 - p) ≡ 8 + 8 * (14 - p) = omega arith in
+    let whole : (j + l) / 256 ≡ (j + 0) / 256 = omega arith in
+    rw (split, pow-add 2 8 (8 * (14 - p)), ← div-div-eq-div-mul (j + l) 256 (2 ^ (8 * (14 - p))), ← div-div-eq-div-mul (j + 0) 256 (2 ^ (8 * (14 - p))), whole)
+
+pub flat-counters : (s : List ℕ) (j : ℕ) → Lanes s (λ l. counter (j + l)) → j % 256 < 241 → (p : ℕ) → p < 15 → Flat s p
+flat-counters s j so hj p h =
+    record {
+      equal =
+          λ l hl.
+          ap (λ x. getD x p 0) (so .each l hl)
+          ∙ sym (counter-at (j + l) p (omega arith))
+          ∙ ap (λ x. x % 256) (high-same j l p hj hl h)
+          ∙ counter-at (j + 0) p (omega arith)
+          ∙ ap (λ x. getD x p 0) (sym (so .each 0 (omega arith)));
+    }
+
+pub flat-key : (w s u : List ℕ) → Lanes u (λ l. addKey w 0 (lane s l)) → ((p : ℕ) → p < 15 → Flat s p) → (p : ℕ) → p < 15 → Flat u p
+flat-key w s u so flat p h =
+    record {
+      equal =
+          λ l hl.
+          ap (λ x. getD x p 0) (so .each l hl)
+          ∙ sym (key-at w (lane s l) 0 p (16 * 0 + p) (omega arith) refl)
+          ∙ ap (λ x. bitXor x (getD w (16 * 0 + p) 0)) (flat p h .equal l hl)
+          ∙ key-at w (lane s 0) 0 p (16 * 0 + p) (omega arith) refl
+          ∙ ap (λ x. getD x p 0) (sym (so .each 0 (omega arith)));
+    }
+
+-- After SubBytes and ShiftRows of blocks that differ in byte 15 only, the columns from 1 on are the same.
+flat-shifted : (u v : List ℕ) → Lanes v (λ l. shiftRows (subBytes (lane u l))) → ((p : ℕ) → p < 15 → Flat u p)
+    → (p : ℕ) → 4 ≤ p → p < 16 → (l : ℕ) → l < 16 → getD (lane v l) p 0 ≡ getD (lane v 0) p 0
+flat-shifted u v so flat p low h l hl =
+    ap (λ x. getD x p 0) (so .each l hl)
+    ∙ sub-shift-at (lane u l) p h
+    ∙ ap sboxOf (flat ((p + 4 * (p % 4)) % 16) (not-15 p h (λ e. let z : ⊥ = omega arith in z)) .equal l hl)
+    ∙ sym (sub-shift-at (lane u 0) p h)
+    ∙ ap (λ x. getD x p 0) (sym (so .each 0 (omega arith)))
+
+module _ (w u v x : List ℕ) (n : ℕ) (shifted : Lanes v (λ l. shiftRows (subBytes (lane u l)))) (mix : Lanes x (λ l. addKey w n (mixColumns (lane v l))))
+    (flat : (p : ℕ) → p < 15 → Flat u p) where
+  mixes : (l p : ℕ) → 4 ≤ p → p < 16 → l < 16 → getD (mixColumns (lane v l)) p 0 ≡ getD (mixColumns (lane v 0)) p 0
+  mixes l p low h hl =
+      let a = p % 4 + 4 * (p / 4) in
+      let b = (p + 1) % 4 + 4 * (p / 4) in
+      let d = (p + 2) % 4 + 4 * (p / 4) in
+      let e = (p + 3) % 4 + 4 * (p / 4) in
+      mix-at (lane v l) p a b d e h refl refl refl refl
+      ∙ (λ z.
+      mixByte
+      (flat-shifted u v shifted flat a (omega arith) (omega arith) l hl z)
+      (flat-shifted u v shifted flat b (omega arith) (omega arith) l hl z)
+      (flat-shifted u v shifted flat d (omega arith) (omega arith) l hl z)
+      (flat-shifted u v shifted flat e (omega arith) (omega arith) l hl z))
+      ∙ sym (mix-at (lane v 0) p a b d e h refl refl refl refl)
+
+  -- After the whole round they are the same too.
+  pub flat-round : (p : ℕ) → 4 ≤ p → p < 16 → Flat x p
+  flat-round p low h =
+      record {
+        equal =
+            λ l hl.
+            ap (λ y. getD y p 0) (mix .each l hl)
+            ∙ sym (key-at w (mixColumns (lane v l)) n p (16 * n + p) h refl)
+            ∙ ap (λ y. bitXor y (getD w (16 * n + p) 0)) (mixes l p low h hl)
+            ∙ key-at w (mixColumns (lane v 0)) n p (16 * n + p) h refl
+            ∙ ap (λ y. getD y p 0) (sym (mix .each 0 (omega arith)));
+      }
+
 -- ---- the rounds
 
 pub no-rounds : (w u : List ℕ) → length u ≡ 256 → Lanes u (λ l. rounds w 0 (lane u l))
@@ -260,3 +451,8 @@ all-rounds w s u₀ u n nine keyed before last =
           last .each l h
           ∙ (λ z. addKey w 10 (shiftRows (subBytes ((before .each l h ∙ (λ y. rounds w (nine y) (keyed .each l h y))) z))));
     }
+
+pub of-counters : (w s : List ℕ) {r : List ℕ} (j : ℕ) → Lanes s (λ l. counter (j + l)) → Lanes r (λ l. cipher w (lane s l))
+    → Lanes r (λ l. cipher w (counter (j + l)))
+of-counters w s j counted crypted =
+    record { long = crypted .long; each = λ l h. crypted .each l h ∙ ap (cipher w) (counted .each l h) }

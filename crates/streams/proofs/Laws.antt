@@ -65,11 +65,11 @@ half-word x l h b hh e =
     + 256 * (at 4 (omega arith) t + 256 * (at 5 (omega arith) t + 256 * (at 6 (omega arith) t + 256 * at 7 (omega arith) t)))))))
 
 -- Numbers from the blocks of sixteen counters.
-pub lane-numbers : (w s x : List ℕ) (j q n : ℕ) → n ≤ 32 → Lanes s (λ l. counter (j + l)) → Lanes x (λ l. cipher w (lane s l))
+pub lane-numbers : (w x : List ℕ) (j q n : ℕ) → n ≤ 32 → Lanes x (λ l. cipher w (counter (j + l)))
     → tab n (λ i. word64 (lane x (i / 2)) (8 * (i % 2)) % q) ≡ tab n (λ i. word64 (cipher w (counter (j + i / 2))) (8 * (i % 2)) % q)
-lane-numbers w s x j q n small S X =
+lane-numbers w x j q n small X =
     tab-ext n (λ i. word64 (lane x (i / 2)) (8 * (i % 2)) % q) (λ i. word64 (cipher w (counter (j + i / 2))) (8 * (i % 2)) % q)
-    (λ k h. ap (λ b. word64 b (8 * (k % 2)) % q) (X .each (k / 2) (omega arith) ∙ ap (λ b. cipher w b) (S .each (k / 2) (omega arith))))
+    (λ k h. ap (λ b. word64 b (8 * (k % 2)) % q) (X .each (k / 2) (omega arith)))
 
 -- Number i + k from block c on, for even i, is number k from block c + i / 2 on.
 pub number-from : (q c i k : ℕ) (seed w : List ℕ) → w ≡ keyExpansion seed → i % 2 ≡ 0

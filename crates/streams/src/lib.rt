@@ -115,10 +115,8 @@ fn from_block(w: &[u8; 176], j: u64, q: u32, out: &mut [u32])
     requires { ⌜ length (now out) ≤ 32 ⌝ }
     ensures { λ _. ⌜ now (out .exit) ≡ tab (length (now (out .entry))) (λ i. word64 (cipher (now (w .entry)) (counter (j + i / 2))) (8 * (i % 2)) % q) ⌝ }
 {
-    let mut s = [0u8; 256];
     let mut x = [0u8; 256];
-    aes_wide::counters(j, &mut s);
-    aes_wide::sixteen(w, &s, &mut x);
+    aes_wide::counter_blocks(w, j, &mut x);
     numbers_of(&x, q, out);
 }
 
