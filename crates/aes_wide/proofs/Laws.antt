@@ -17,7 +17,7 @@ use Rattle.lists.specs.Test.{same}
 use Rattle.sbox.specs.Sbox.{sboxOf}
 use Rattle.aes.specs.Fips197.{subBytes, shiftRows, mixByte, mixColumns, addKey, rounds, cipher}
 use Rattle.aes.proofs.Laws.{sub-shift-at, mix-at, Column, mixed}
-use Rattle.aes_wide.specs.Wide.{lane, Lanes, Flat, Patched, counter}
+use Rattle.aes_wide.specs.Wide.{lane, Lanes, part, Blocks, Flat, Patched, counter}
 
 lane-at : (s : List ℕ) (l p q : ℕ) → p < 16 → 16 * p + l ≡ q → getD (lane s l) p 0 ≡ getD s q 0
 unfolding lane
@@ -73,6 +73,54 @@ row-next {r} {p} {l} {g} rows h =
 
 pub rows-end : {r : List ℕ} {p : ℕ} {g : ℕ → List ℕ} → Rows r p 0 g → 16 ≤ p → ((l : ℕ) → length (g l) ≡ 16) → Lanes r g
 rows-end {r} {p} {g} rows h size = lanes r g size (done (rows .so-far) (omega arith))
+
+-- ---- a block at a time
+
+-- What stands at place k where the blocks stand one after the other.
+unfoldable pub upright : (ℕ → List ℕ) → ℕ → ℕ
+upright g k = getD (g (k / 16)) (k % 16) 0
+
+upright-at : (g : ℕ → List ℕ) (p l k : ℕ) → p < 16 → 16 * l + p ≡ k → getD (g l) p 0 ≡ upright g k
+unfolding upright
+upright-at g p l k h e =
+    let block : l ≡ k / 16 = omega arith in
+    let byte : p ≡ k % 16 = omega arith in
+    λ z. getD (g (block z)) (byte z) 0
+
+-- The blocks before l are written, and of block l the first p bytes.
+pub record Pieces (r : List ℕ) (l p : ℕ) (g : ℕ → List ℕ) : Type 0 where
+  pub within : p ≤ 16
+  pub so-far : Filling 256 r (16 * l + p) (upright g)
+
+pub pieces-start : (r : List ℕ) (g : ℕ → List ℕ) → length r ≡ 256 → Pieces r 0 0 g
+pieces-start r g long = record { within = omega arith; so-far = start r (upright g) long }
+
+pub piece-more : {r : List ℕ} {l p : ℕ} {g : ℕ → List ℕ} {v : ℕ} → Pieces r l p g → l < 16 → p < 16 → v ≡ getD (g l) p 0 → Pieces (set r (16 * l + p) v) l (p + 1) g
+piece-more {r} {l} {p} {g} {v} pieces hl hp e =
+    record {
+      within = omega arith;
+      so-far = counted (omega arith) (more (pieces .so-far) (omega arith) (e ∙ upright-at g p l (16 * l + p) hp refl));
+    }
+
+pub piece-next : {r : List ℕ} {l p : ℕ} {g : ℕ → List ℕ} → Pieces r l p g → 16 ≤ p → Pieces r (l + 1) 0 g
+piece-next {r} {l} {p} {g} pieces h =
+    let k : p ≤ 16 = pieces .within in
+    record { within = omega arith; so-far = counted (omega arith) (pieces .so-far) }
+
+pub pieces-end : {r : List ℕ} {l : ℕ} {g : ℕ → List ℕ} → Pieces r l 0 g → 16 ≤ l → ((k : ℕ) → length (g k) ≡ 16) → Blocks r g
+unfolding part
+pieces-end {r} {l} {g} pieces h size =
+    let all : r ≡ tab 256 (upright g) = done (pieces .so-far) (omega arith) in
+    record {
+      each =
+          λ k hk.
+          sym
+          (list-is-tab 16 (g k) (λ p. getD r (16 * k + p) 0) (size k)
+          (λ p q.
+          upright-at g p k (16 * k + p) q refl
+          ∙ sym (tab-at 256 (upright g) (16 * k + p) (omega arith))
+          ∙ ap (λ x. getD x (16 * k + p) 0) (sym all)));
+    }
 
 -- ---- four rows, those of a column, at a time
 
@@ -440,19 +488,22 @@ one-round w u₀ u v n before shifted mix =
           ∙ ap (λ x. addKey w (n + 1) (mixColumns x)) (shifted .each l h ∙ ap (λ x. shiftRows (subBytes x)) (before .each l h)));
     }
 
+all-in-block : (w s u₀ u : List ℕ) (n l : ℕ) → l < 16 → n ≡ 9 → Lanes u₀ (λ k. addKey w 0 (lane s k)) → Lanes u (λ k. rounds w n (lane u₀ k))
+    → addKey w 10 (shiftRows (subBytes (lane u l))) ≡ cipher w (lane s l)
+unfolding cipher
+all-in-block w s u₀ u n l h nine keyed before =
+    λ z. addKey w 10 (shiftRows (subBytes ((before .each l h ∙ (λ y. rounds w (nine y) (keyed .each l h y))) z)))
+
 pub all-rounds : (w s u₀ u : List ℕ) {r : List ℕ} (n : ℕ) → n ≡ 9 → Lanes u₀ (λ l. addKey w 0 (lane s l)) → Lanes u (λ l. rounds w n (lane u₀ l))
     → Lanes r (λ l. addKey w 10 (shiftRows (subBytes (lane u l)))) → Lanes r (λ l. cipher w (lane s l))
-unfolding cipher
 all-rounds w s u₀ u n nine keyed before last =
-    record {
-      long = last .long;
-      each =
-          λ l h.
-          last .each l h
-          ∙ (λ z. addKey w 10 (shiftRows (subBytes ((before .each l h ∙ (λ y. rounds w (nine y) (keyed .each l h y))) z))));
-    }
+    record { long = last .long; each = λ l h. last .each l h ∙ all-in-block w s u₀ u n l h nine keyed before }
 
-pub of-counters : (w s : List ℕ) {r : List ℕ} (j : ℕ) → Lanes s (λ l. counter (j + l)) → Lanes r (λ l. cipher w (lane s l))
-    → Lanes r (λ l. cipher w (counter (j + l)))
-of-counters w s j counted crypted =
-    record { long = crypted .long; each = λ l h. crypted .each l h ∙ ap (cipher w) (counted .each l h) }
+pub all-blocks : (w s u₀ u : List ℕ) {r : List ℕ} (n : ℕ) → n ≡ 9 → Lanes u₀ (λ l. addKey w 0 (lane s l)) → Lanes u (λ l. rounds w n (lane u₀ l))
+    → Blocks r (λ l. addKey w 10 (shiftRows (subBytes (lane u l)))) → Blocks r (λ l. cipher w (lane s l))
+all-blocks w s u₀ u n nine keyed before last =
+    record { each = λ l h. last .each l h ∙ all-in-block w s u₀ u n l h nine keyed before }
+
+pub of-counters : (w s : List ℕ) {r : List ℕ} (j : ℕ) → Lanes s (λ l. counter (j + l)) → Blocks r (λ l. cipher w (lane s l))
+    → Blocks r (λ l. cipher w (counter (j + l)))
+of-counters w s j counted crypted = record { each = λ l h. crypted .each l h ∙ ap (cipher w) (counted .each l h) }

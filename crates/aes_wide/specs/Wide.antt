@@ -15,6 +15,14 @@ pub record Lanes (r : List ℕ) (g : ℕ → List ℕ) : Type 0 where
   pub long : length r ≡ 256
   pub each : (l : ℕ) → l < 16 → lane r l ≡ g l
 
+-- Block l of sixteen that stand one after the other.
+unfoldable pub part : List ℕ → ℕ → List ℕ
+part x l = tab 16 (λ p. getD x (16 * l + p) 0)
+
+-- r holds sixteen blocks one after the other, of which block l is g l.
+pub record Blocks (r : List ℕ) (g : ℕ → List ℕ) : Type 0 where
+  pub each : (l : ℕ) → l < 16 → part r l ≡ g l
+
 -- Byte p is the same in each of the sixteen blocks.
 pub record Flat (s : List ℕ) (p : ℕ) : Type 0 where
   pub equal : (l : ℕ) → l < 16 → getD (lane s l) p 0 ≡ getD (lane s 0) p 0

@@ -1,13 +1,13 @@
 // AES-128, sixteen blocks at a time: byte p of block l stands at place 16 p + l.
 
-ghost use mathlib.Core.Bool.{true};
+ghost use mathlib.Core.Bool.{true, false};
 ghost use mathlib.Core.Path.{_≡_};
 ghost use Prim.Native.Nat.{ℕ, _+_, _*_, _-_, _/_, _%_, _^_, _<_, _≤_};
 ghost use lib.ListN.{length};
 ghost use Rattle.lists.specs.Tab.{tab};
 ghost use Rattle.sbox.specs.Sbox.{sboxOf};
 ghost use Rattle.aes.specs.Fips197.{subBytes, shiftRows, mixColumns, addKey, cipher};
-ghost use Rattle.aes_wide.specs.Wide.{lane, Lanes, Flat, Patched, counter};
+ghost use Rattle.aes_wide.specs.Wide.{lane, Lanes, Blocks, Flat, Patched, counter};
 
 // Byte p of j as a 16-byte big-endian number.
 fn counter_byte(j: u64, p: usize) -> u8
@@ -176,11 +176,28 @@ fn last_round(t: &[u8; 256], w: &[u8; 176], s: &[u8; 256], r: &mut [u8; 256])
     }
 }
 
-// Cipher of each block, under the key schedule w. If `close`, the blocks differ in byte 15 only.
-fn encrypt(w: &[u8; 176], close: bool, s: &[u8; 256], r: &mut [u8; 256])
+// The last round in each block, the blocks laid out one after the other.
+fn last_blocks(t: &[u8; 256], w: &[u8; 176], s: &[u8; 256], r: &mut [u8; 256])
+    requires { ⌜ now t ≡ tab 256 sboxOf ⌝ }
+    requires { ⌜ length (now r) ≡ 256 ⌝ }
+    ensures { λ _. ⌜ Blocks (now (r .exit)) (λ l. addKey (now (w .entry)) 10 (shiftRows (subBytes (lane (now (s .entry)) l)))) ⌝ }
+{
+    for l in 0..16 {
+        for p in 0..16 {
+            let b = 16 * ((p + 4 * (p % 4)) % 16);
+            let key = w[160 + p];
+            r[16 * l + p] = sbox::sub(t, s[b + l]) ^ key;
+        }
+    }
+}
+
+// Cipher of each block, under the key schedule w. If `close`, the blocks differ in byte 15 only. If `apart`, they are laid out one after
+// the other.
+fn encrypt(w: &[u8; 176], close: bool, apart: bool, s: &[u8; 256], r: &mut [u8; 256])
     requires { ⌜ length (now r) ≡ 256 ⌝ }
     requires { ⌜ (close ≡ true → (p : ℕ) → p < 15 → Flat (now s) p) ⌝ }
-    ensures { λ _. ⌜ Lanes (now (r .exit)) (λ l. cipher (now (w .entry)) (lane (now (s .entry)) l)) ⌝ }
+    ensures { λ _. ⌜ (apart ≡ true → Blocks (now (r .exit)) (λ l. cipher (now (w .entry)) (lane (now (s .entry)) l))) ⌝ }
+    ensures { λ _. ⌜ (apart ≡ false → Lanes (now (r .exit)) (λ l. cipher (now (w .entry)) (lane (now (s .entry)) l))) ⌝ }
 {
     let t = sbox::table();
     let mut u = [0u8; 256];
@@ -190,6 +207,10 @@ fn encrypt(w: &[u8; 176], close: bool, s: &[u8; 256], r: &mut [u8; 256])
         sub_shift_at(&t, n, close, &u, &mut v);
         mix_key(w, n + 1, &v, &mut u);
     }
+    if apart {
+        last_blocks(&t, w, &u, r);
+        return;
+    }
     last_round(&t, w, &u, r);
 }
 
@@ -198,20 +219,20 @@ pub fn sixteen(w: &[u8; 176], s: &[u8; 256], r: &mut [u8; 256])
     requires { ⌜ length (now r) ≡ 256 ⌝ }
     ensures { λ _. ⌜ Lanes (now (r .exit)) (λ l. cipher (now (w .entry)) (lane (now (s .entry)) l)) ⌝ }
 {
-    encrypt(w, false, s, r);
+    encrypt(w, false, false, s, r);
 }
 
-// Cipher of the counter blocks j to j + 15, under the key schedule w.
+// Cipher of the counter blocks j to j + 15, under the key schedule w, one after the other.
 pub fn counter_blocks(w: &[u8; 176], j: u64, r: &mut [u8; 256])
     requires { ⌜ j + 15 < 18446744073709551616 ⌝ }
     requires { ⌜ length (now r) ≡ 256 ⌝ }
-    ensures { λ _. ⌜ Lanes (now (r .exit)) (λ l. cipher (now (w .entry)) (counter (j + l))) ⌝ }
+    ensures { λ _. ⌜ Blocks (now (r .exit)) (λ l. cipher (now (w .entry)) (counter (j + l))) ⌝ }
 {
     let mut s = [0u8; 256];
     counters(j, &mut s);
     if j % 256 < 241 {
-        encrypt(w, true, &s, r);
+        encrypt(w, true, true, &s, r);
         return;
     }
-    encrypt(w, false, &s, r);
+    encrypt(w, false, true, &s, r);
 }

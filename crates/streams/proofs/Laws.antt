@@ -12,7 +12,7 @@ use lib.ListN.{length, getD, length-append, length-drop, List·getD-append, take
 use lib.Seq.{take-length, take-at, drop-at, length-take-le, getD-take, getD-append-add}
 use Rattle.lists.specs.Tab.{tab, tab-length, tab-at, tab-ext, list-is-tab, Filling}
 use Rattle.aes.specs.Fips197.{keyExpansion, cipher, aes128}
-use Rattle.aes_wide.specs.Wide.{lane, Lanes, counter}
+use Rattle.aes_wide.specs.Wide.{part, Blocks, counter}
 use Rattle.streams.specs.Streams.{block, word64, number}
 
 -- A number below 2 ^ 64 has only 0 in the upper 8 of its 16 bytes.
@@ -38,37 +38,36 @@ both-halves a b x y z p q long rest =
     ap₂ (λ u v. u ++ (y ++ drop 16 v)) (take-at x z 16 long) (drop-at x z 16 long)
     ∙ ap (λ v. x ++ (y ++ v)) (drop-of-length-le z {i = 16} (omega arith)) ∙ ap (λ v. x ++ v) (append-nil y) ∙ ap₂ (λ u v. u ++ v) p q
 
--- Byte p of half h of block l, where the half's first byte stands at place b of the sixteen blocks side by side.
-lane-at : (x : List ℕ) (l p : ℕ) → p < 16 → getD (lane x l) p 0 ≡ getD x (16 * p + l) 0
-unfolding lane
-lane-at x l p h = tab-at 16 (λ k. getD x (16 * k + l) 0) p h
+-- Byte p of half h of block l, where the half's first byte stands at place b of the sixteen blocks one after the other.
+part-at : (x : List ℕ) (l p : ℕ) → p < 16 → getD (part x l) p 0 ≡ getD x (16 * l + p) 0
+unfolding part
+part-at x l p h = tab-at 16 (λ k. getD x (16 * l + k) 0) p h
 
-half-at : (x : List ℕ) (l h p b : ℕ) → h < 2 → p < 8 → b ≡ 128 * h + l → getD (lane x l) (8 * h + p) 0 ≡ getD x (b + 16 * p) 0
+half-at : (x : List ℕ) (l h p b : ℕ) → h < 2 → p < 8 → b ≡ 16 * l + 8 * h → getD (part x l) (8 * h + p) 0 ≡ getD x (b + p) 0
 half-at x l h p b hh hp e =
-    let place : 16 * (8 * h + p) + l ≡ b + 16 * p = omega arith in
-    lane-at x l (8 * h + p) (omega arith) ∙ ap (λ k. getD x k 0) place
+    let place : 16 * l + (8 * h + p) ≡ b + p = omega arith in
+    part-at x l (8 * h + p) (omega arith) ∙ ap (λ k. getD x k 0) place
 
-first-at : (x : List ℕ) (l h b : ℕ) → h < 2 → b ≡ 128 * h + l → getD (lane x l) (8 * h) 0 ≡ getD x b 0
+first-at : (x : List ℕ) (l h b : ℕ) → h < 2 → b ≡ 16 * l + 8 * h → getD (part x l) (8 * h) 0 ≡ getD x b 0
 first-at x l h b hh e =
-    let place : 16 * (8 * h) + l ≡ b = omega arith in
-    lane-at x l (8 * h) (omega arith) ∙ ap (λ k. getD x k 0) place
+    part-at x l (8 * h) (omega arith) ∙ ap (λ k. getD x k 0) (sym e)
 
-pub half-word : (x : List ℕ) (l h b : ℕ) → h < 2 → b ≡ 128 * h + l
-    → getD x b 0 + 256 * (getD x (b + 16) 0 + 256 * (getD x (b + 32) 0 + 256 * (getD x (b + 48) 0
-    + 256 * (getD x (b + 64) 0 + 256 * (getD x (b + 80) 0 + 256 * (getD x (b + 96) 0 + 256 * getD x (b + 112) 0))))))
-    ≡ word64 (lane x l) (8 * h)
+pub half-word : (x : List ℕ) (l h b : ℕ) → h < 2 → b ≡ 16 * l + 8 * h
+    → getD x b 0 + 256 * (getD x (b + 1) 0 + 256 * (getD x (b + 2) 0 + 256 * (getD x (b + 3) 0
+    + 256 * (getD x (b + 4) 0 + 256 * (getD x (b + 5) 0 + 256 * (getD x (b + 6) 0 + 256 * getD x (b + 7) 0))))))
+    ≡ word64 (part x l) (8 * h)
 unfolding word64
 half-word x l h b hh e =
-    let at : (p : ℕ) → p < 8 → getD (lane x l) (8 * h + p) 0 ≡ getD x (b + 16 * p) 0 = λ p hp. half-at x l h p b hh hp e in
+    let at : (p : ℕ) → p < 8 → getD (part x l) (8 * h + p) 0 ≡ getD x (b + p) 0 = λ p hp. half-at x l h p b hh hp e in
     sym
     (λ t. first-at x l h b hh e t + 256 * (at 1 (omega arith) t + 256 * (at 2 (omega arith) t + 256 * (at 3 (omega arith) t
     + 256 * (at 4 (omega arith) t + 256 * (at 5 (omega arith) t + 256 * (at 6 (omega arith) t + 256 * at 7 (omega arith) t)))))))
 
 -- Numbers from the blocks of sixteen counters.
-pub lane-numbers : (w x : List ℕ) (j q n : ℕ) → n ≤ 32 → Lanes x (λ l. cipher w (counter (j + l)))
-    → tab n (λ i. word64 (lane x (i / 2)) (8 * (i % 2)) % q) ≡ tab n (λ i. word64 (cipher w (counter (j + i / 2))) (8 * (i % 2)) % q)
+pub lane-numbers : (w x : List ℕ) (j q n : ℕ) → n ≤ 32 → Blocks x (λ l. cipher w (counter (j + l)))
+    → tab n (λ i. word64 (part x (i / 2)) (8 * (i % 2)) % q) ≡ tab n (λ i. word64 (cipher w (counter (j + i / 2))) (8 * (i % 2)) % q)
 lane-numbers w x j q n small X =
-    tab-ext n (λ i. word64 (lane x (i / 2)) (8 * (i % 2)) % q) (λ i. word64 (cipher w (counter (j + i / 2))) (8 * (i % 2)) % q)
+    tab-ext n (λ i. word64 (part x (i / 2)) (8 * (i % 2)) % q) (λ i. word64 (cipher w (counter (j + i / 2))) (8 * (i % 2)) % q)
     (λ k h. ap (λ b. word64 b (8 * (k % 2)) % q) (X .each (k / 2) (omega arith)))
 
 -- Number i + k from block c on, for even i, is number k from block c + i / 2 on.

@@ -7,7 +7,7 @@ ghost use lib.ListN.{length};
 ghost use Rattle.lists.specs.Tab.{tab};
 ghost use Rattle.numbers.specs.Inverse.{Member, qs};
 ghost use Rattle.aes.specs.Fips197.{cipher};
-ghost use Rattle.aes_wide.specs.Wide.{lane, counter};
+ghost use Rattle.aes_wide.specs.Wide.{part, counter};
 ghost use Rattle.streams.specs.Streams.{block, word64, number};
 
 // The seed as a key.
@@ -78,23 +78,23 @@ fn wide(b: u8) -> u64
     b as u64
 }
 
-// Number i of sixteen blocks side by side, not yet reduced: two numbers to a block.
+// Number i of sixteen blocks one after the other, not yet reduced: two numbers to a block.
 fn word_at(x: &[u8; 256], i: usize) -> u64
     requires { ⌜ i < 32 ⌝ }
-    ensures { λ r. ⌜ r ≡ word64 (lane (now (x .entry)) (i / 2)) (8 * (i % 2)) ⌝ }
+    ensures { λ r. ⌜ r ≡ word64 (part (now (x .entry)) (i / 2)) (8 * (i % 2)) ⌝ }
 {
-    let b = 128 * (i % 2) + i / 2;
-    let high = wide(x[b + 64])
-        + 256 * (wide(x[b + 80]) + 256 * (wide(x[b + 96]) + 256 * wide(x[b + 112])));
+    let b = 8 * i;
+    let high = wide(x[b + 4])
+        + 256 * (wide(x[b + 5]) + 256 * (wide(x[b + 6]) + 256 * wide(x[b + 7])));
     wide(x[b])
-        + 256 * (wide(x[b + 16]) + 256 * (wide(x[b + 32]) + 256 * (wide(x[b + 48]) + 256 * high)))
+        + 256 * (wide(x[b + 1]) + 256 * (wide(x[b + 2]) + 256 * (wide(x[b + 3]) + 256 * high)))
 }
 
-// The numbers of sixteen blocks side by side, as many as out has room for.
+// The numbers of sixteen blocks one after the other, as many as out has room for.
 fn numbers_of(x: &[u8; 256], q: u32, out: &mut [u32])
     requires { ⌜ Member q qs ⌝ }
     requires { ⌜ length (now out) ≤ 32 ⌝ }
-    ensures { λ _. ⌜ now (out .exit) ≡ tab (length (now (out .entry))) (λ i. word64 (lane (now (x .entry)) (i / 2)) (8 * (i % 2)) % q) ⌝ }
+    ensures { λ _. ⌜ now (out .exit) ≡ tab (length (now (out .entry))) (λ i. word64 (part (now (x .entry)) (i / 2)) (8 * (i % 2)) % q) ⌝ }
 {
     for i in 0..out.len() {
         out[i] = numbers::reduced(word_at(x, i), q);

@@ -1,5 +1,6 @@
 -- `aes_wide::counter_blocks` meets its contract: where byte 15 does not overflow, the blocks differ in it only. Assumes nothing.
 use mathlib.Core.Bool.{false≢true}
+use mathlib.Core.Path.{refl}
 use Rattle.aes_wide.proofs.Laws.{flat-counters, of-counters}
 use borrow.Author.Needs.{needs}
 use Rattle.aes_wide.proofs.counter_blocks.Statement.{statement}
@@ -23,7 +24,7 @@ encrypt-requires c κs =
 returns : tie.Need-returns
 returns c =
     let counted = c .before .before .before .before in
-    of-counters (counted .before .before .args .w .now) _ (counted .before .before .args .j) (counted .counters .ensures) (c .encrypt .ensures)
+    of-counters (counted .before .before .args .w .now) _ (counted .before .before .args .j) (counted .counters .ensures) (c .encrypt .ensures .0 refl)
 
 -- src/lib.rt:216:5
 encrypt-requires-2 : tie.Need-encrypt-requires-2
@@ -33,7 +34,7 @@ encrypt-requires-2 c κs = (search needs, λ close. absurd (false≢true close))
 returns-2 : tie.Need-returns-2
 returns-2 c =
     let counted = c .before .before .before .before in
-    of-counters (counted .before .before .args .w .now) _ (counted .before .before .args .j) (counted .counters .ensures) (c .encrypt2 .ensures)
+    of-counters (counted .before .before .args .w .now) _ (counted .before .before .args .j) (counted .counters .ensures) (c .encrypt2 .ensures .0 refl)
 
 pub counter-blocks-spec : {M : Type 1} → statement M
 counter-blocks-spec =

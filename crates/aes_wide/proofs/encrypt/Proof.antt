@@ -1,12 +1,12 @@
 -- `aes_wide::encrypt` meets its contract: before turn n of the loop, u holds the states after n rounds. Assumes nothing.
-use mathlib.Core.Bool.{true}
-use mathlib.Core.Path.{_≡_, refl}
+use mathlib.Core.Bool.{true, true≢false}
+use mathlib.Core.Path.{_≡_, refl, sym, _∙_}
 use Prim.Native.Nat.{ℕ, _-_, _≤_, _<_}
 use native.Mathlib.Omega.{arith}
 use lib.ListN.{length}
 use Rattle.aes.specs.Fips197.{rounds}
 use Rattle.aes_wide.specs.Wide.{lane, Lanes, Flat}
-use Rattle.aes_wide.proofs.Laws.{no-rounds, one-round, all-rounds, flat-key, flat-round}
+use Rattle.aes_wide.proofs.Laws.{no-rounds, one-round, all-rounds, all-blocks, flat-key, flat-round}
 use borrow.Author.Needs.{needs}
 use Rattle.aes_wide.proofs.encrypt.Statement.{statement}
 use Rattle.aes_wide.proofs.encrypt.Tie as tie
@@ -19,12 +19,12 @@ use Rattle.aes_wide.proofs.sub_shift_at.Reads as sub-shift-at-reads
 use Rattle.sbox.proofs.table.Reads as table-reads
 
 abbrev Inv-loop : tie.InvT-loop
-Inv-loop w close s r t u₀ v₀ n₀ u v n =
+Inv-loop w close apart s r t u₀ v₀ n₀ u v n =
     (n ≤ 9) × (length v ≡ 256) × Lanes u (λ l. rounds w n (lane u₀ l)) × (close ≡ true → n ≡ 0 → (p : ℕ) → p < 15 → Flat u p)
     × (close ≡ true → n ≡ 1 → (p : ℕ) → 4 ≤ p → p < 16 → Flat u p)
 
 abbrev μ-loop : tie.MeasureT-loop
-μ-loop w close s r t u₀ v₀ n₀ u v n = 9 - n
+μ-loop w close apart s r t u₀ v₀ n₀ u v n = 9 - n
 
 -- src/lib.rt:185:13
 table-requires : tie.Need-table-requires Inv-loop μ-loop
@@ -79,16 +79,29 @@ loop-again c =
       (λ yes second. let first : at .n ≡ 0 = omega arith in flat-round _ _ _ _ _ shifted (c .mix-key .ensures) (at .inv .3 yes first)),
     )
 
--- src/lib.rt:193:5
+last-blocks-requires : tie.Need-last-blocks-requires Inv-loop μ-loop
+last-blocks-requires c κs = search needs
+
+returns : tie.Need-returns Inv-loop μ-loop
+returns c =
+    let taken = c .before .before .before .before in
+    let at = taken .before .before in
+    let nine : at .loop .n ≡ 9 = omega arith in (
+      (λ yes. all-blocks _ _ _ _ _ nine (at .before .first-key .ensures) (at .loop .inv .2) (c .last-blocks .ensures)),
+      (λ no. absurd (true≢false (sym (taken .if1 .taken) ∙ no))),
+    )
+
 last-round-requires : tie.Need-last-round-requires Inv-loop μ-loop
 last-round-requires c κs = search needs
 
--- src/lib.rt:180:1
-returns : tie.Need-returns Inv-loop μ-loop
-returns c =
-    let at = c .before .before .before .before .before in
-    let nine : at .loop .n ≡ 9 = omega arith in
-    all-rounds _ _ _ _ _ nine (at .before .first-key .ensures) (at .loop .inv .2) (c .last-round .ensures)
+returns-2 : tie.Need-returns-2 Inv-loop μ-loop
+returns-2 c =
+    let left = c .before .before .before .before in
+    let at = left .before .before in
+    let nine : at .loop .n ≡ 9 = omega arith in (
+      (λ yes. absurd (true≢false (sym yes ∙ left .if1 .left))),
+      (λ no. all-rounds _ _ _ _ _ nine (at .before .first-key .ensures) (at .loop .inv .2) (c .last-round .ensures)),
+    )
 
 pub encrypt-spec : {M : Type 1} → statement M
 encrypt-spec =
@@ -105,5 +118,7 @@ encrypt-spec =
     add-n
     loop-less
     loop-again
+    last-blocks-requires
+    returns
     last-round-requires
-    returns)
+    returns-2)

@@ -1,4 +1,4 @@
--- `streams::from_block` meets its contract: lane l is the block of counter j + l. Assumes nothing.
+-- `streams::from_block` meets its contract: block l is that of counter j + l. Assumes nothing.
 use borrow.Author.Needs.{needs}
 use mathlib.Core.Path.{_∙_}
 use lib.ListN.{length}

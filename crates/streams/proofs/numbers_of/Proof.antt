@@ -4,13 +4,13 @@ use Prim.Native.Nat.{_*_, _-_, _/_, _%_}
 use mathlib.Core.Path.{refl, ap, _∙_}
 use lib.ListN.{length}
 use Rattle.lists.specs.Tab.{Filling, start, more, done}
-use Rattle.aes_wide.specs.Wide.{lane}
+use Rattle.aes_wide.specs.Wide.{part}
 use Rattle.streams.specs.Streams.{word64}
 use Rattle.streams.proofs.numbers_of.Statement.{statement}
 use Rattle.streams.proofs.numbers_of.Tie as tie
 
 abbrev Inv-loop : tie.InvT-loop
-Inv-loop x q out₀ i₀ i-end out i = Filling (length out₀) out i (λ k. word64 (lane x (k / 2)) (8 * (k % 2)) % q)
+Inv-loop x q out₀ i₀ i-end out i = Filling (length out₀) out i (λ k. word64 (part x (k / 2)) (8 * (k % 2)) % q)
 
 abbrev μ-loop : tie.MeasureT-loop
 μ-loop x q out₀ i₀ i-end out i = length out₀ - i

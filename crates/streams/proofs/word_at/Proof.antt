@@ -1,4 +1,4 @@
--- `streams::word_at` meets its contract: the eight bytes of a half stand 16 places apart. Assumes nothing.
+-- `streams::word_at` meets its contract: the eight bytes of a half stand one after the other. Assumes nothing.
 use borrow.Author.Needs.{needs}
 use Prim.Native.Nat.{_+_, _*_, _/_, _%_}
 use mathlib.Core.Path.{refl, _∙_}
@@ -9,9 +9,6 @@ use Rattle.streams.proofs.word_at.Tie as tie
 
 mul-b : tie.Need-mul-b
 mul-b c = search needs
-
-add-b : tie.Need-add-b
-add-b c = search needs
 
 add-wide : tie.Need-add-wide
 add-wide c = search needs
@@ -125,14 +122,13 @@ add-result-4 : tie.Need-add-result-4
 add-result-4 c = search needs
 
 returns : tie.Need-returns
-returns c = let s = c .before .before .before .before .before .before .before .before .before .before .before .before .before .before .before .before in let i = s .args .i in (λ t. c .before .before .before .before .before .before .wide5 .ensures .0 t + 256 * (c .before .before .before .before .wide6 .ensures .0 t + 256 * (c .before .before .wide7 .ensures .0 t + 256 * (c .wide8 .ensures .0 t + 256 * (c .before .before .before .before .before .before .before .before .before .before .before .before .before .before .wide .ensures .0 t + 256 * (c .before .before .before .before .before .before .before .before .before .before .before .before .wide2 .ensures .0 t + 256 * (c .before .before .before .before .before .before .before .before .before .before .wide3 .ensures .0 t + 256 * (c .before .before .before .before .before .before .before .before .wide4 .ensures .0 t)))))))) ∙ half-word (s .args .x .now) (i / 2) (i % 2) (128 * (i % 2) + i / 2) (omega arith) refl
+returns c = let s = c .before .before .before .before .before .before .before .before .before .before .before .before .before .before .before .before in let i = s .args .i in (λ t. c .before .before .before .before .before .before .wide5 .ensures .0 t + 256 * (c .before .before .before .before .wide6 .ensures .0 t + 256 * (c .before .before .wide7 .ensures .0 t + 256 * (c .wide8 .ensures .0 t + 256 * (c .before .before .before .before .before .before .before .before .before .before .before .before .before .before .wide .ensures .0 t + 256 * (c .before .before .before .before .before .before .before .before .before .before .before .before .wide2 .ensures .0 t + 256 * (c .before .before .before .before .before .before .before .before .before .before .wide3 .ensures .0 t + 256 * (c .before .before .before .before .before .before .before .before .wide4 .ensures .0 t)))))))) ∙ half-word (s .args .x .now) (i / 2) (i % 2) (8 * i) (omega arith) (omega arith)
 
 pub word-at-spec : {M : Type 1} → statement M
 word-at-spec =
     tie.close
     (tie.spec
     mul-b
-    add-b
     add-wide
     element-copy-out-wide
     wide-requires
