@@ -1,6 +1,6 @@
 -- What the fused rounds and the key schedule need of the definitions, byte by byte.
 -- Assumes nothing.
-use mathlib.Core.Path.{_≡_, sym, ap, _∙_}
+use mathlib.Core.Path.{_≡_, sym, ap, _∙_, subst}
 use mathlib.Core.List.{List, [], _∷_, _++_, append-assoc}
 use Prim.Native.Nat.{ℕ, suc, _+_, _*_, _-_, _/_, _%_, _≤_, _<_}
 use native.Mathlib.Nat.{add-zero}
@@ -168,3 +168,9 @@ next-word w key x n long h so e =
     (bitXor (getD w (4 * n + 3) 0) (getD x 3 0))
     (omega arith)
     ∙ (λ z. so z ++ (xor-word w x n ∙ (λ y. xorWord (sym last y) ((e ∙ sym temps) y))) z))
+
+-- Four words more.
+pub four-words : (w key : List ℕ) (r : ℕ) → take (16 + 4 * (4 * r + 1 + 1 + 1 + 1)) w ≡ words (4 * r + 1 + 1 + 1 + 1) key
+    → take (16 + 4 * (4 * (r + 1))) w ≡ words (4 * (r + 1)) key
+four-words w key r so =
+    let four : 4 * r + 1 + 1 + 1 + 1 ≡ 4 * (r + 1) = omega arith in subst (λ (n : ℕ). take (16 + 4 * n) w ≡ words n key) four so

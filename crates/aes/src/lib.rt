@@ -1,10 +1,12 @@
 // AES-128, FIPS 197: the key schedule and the encryption of one block.
 
 ghost use mathlib.Core.Path.{_≡_};
-ghost use Prim.Native.Nat.{_<_, _≤_};
+ghost use mathlib.Core.List.{List, [], _∷_};
+ghost use Prim.Native.Nat.{ℕ, _+_, _*_, _%_, _<_};
+ghost use lib.ListN.{length, take};
 ghost use Rattle.lists.specs.Tab.{tab};
 ghost use Rattle.sbox.specs.Sbox.{sboxOf};
-ghost use Rattle.aes.specs.Fips197.{subBytes, shiftRows, mixByte, mixColumns, addKey, xPower, temp, keyExpansion, cipher, aes128};
+ghost use Rattle.aes.specs.Fips197.{subBytes, shiftRows, mixByte, mixColumns, addKey, xPower, temp, words, keyExpansion, cipher, aes128};
 ghost use Rattle.aes.specs.Example.{key-b, input-b, output-b};
 
 // x to the powers 0 to 9, the constants of the key schedule.
@@ -17,30 +19,60 @@ fn x_power(j: usize) -> u8
     POWERS[j]
 }
 
-// temp of Algorithm 2, in the turn that makes word i.
-fn temp_word(t: &[u8; 256], w: &[u8; 176], i: usize) -> [u8; 4]
-    requires { ⌜ now t ≡ tab 256 sboxOf ⌝ }
-    requires { ⌜ (4 ≤ i) × (i < 44) ⌝ }
-    ensures { λ r. ⌜ r ≡ temp (now (w .entry)) i ⌝ }
+// Word n + 4: word n xor temp, which is a, b, c, d.
+fn put_word(w: &mut [u8; 176], n: usize, a: u8, b: u8, c: u8, d: u8)
+    requires { ⌜ length (now w) ≡ 176 ⌝ }
+    requires { ⌜ n < 40 ⌝ }
+    ensures { λ _. ⌜ length (now (w .exit)) ≡ 176 ⌝ }
+    ensures { λ _. ⌜ ((key : List ℕ) → take (16 + 4 * n) (now (w .entry)) ≡ words n key → a ∷ b ∷ c ∷ d ∷ [] ≡ temp (now (w .entry)) (n + 4) → take (16 + 4 * (n + 1)) (now (w .exit)) ≡ words (n + 1) key) ⌝ }
 {
+    let i = 4 * n;
+    let k = 16 + i;
+    let e = w[i] ^ a;
+    let f = w[i + 1] ^ b;
+    let g = w[i + 2] ^ c;
+    let h = w[i + 3] ^ d;
+    w[k] = e;
+    w[k + 1] = f;
+    w[k + 2] = g;
+    w[k + 3] = h;
+}
+
+// Word n + 4 of Algorithm 2, where 4 does not divide n.
+fn plain_word(w: &mut [u8; 176], n: usize)
+    requires { ⌜ length (now w) ≡ 176 ⌝ }
+    requires { ⌜ (n < 40) × (n % 4 ≡ 0 → ⊥) ⌝ }
+    ensures { λ _. ⌜ length (now (w .exit)) ≡ 176 ⌝ }
+    ensures { λ _. ⌜ ((key : List ℕ) → take (16 + 4 * n) (now (w .entry)) ≡ words n key → take (16 + 4 * (n + 1)) (now (w .exit)) ≡ words (n + 1) key) ⌝ }
+{
+    let i = n + 4;
     let k = 4 * (i - 1);
     let a = w[k];
     let b = w[k + 1];
     let c = w[k + 2];
     let d = w[k + 3];
-    if i % 4 != 0 {
-        return [a, b, c, d];
-    }
-    let x = x_power(i / 4 - 1);
-    [
-        sbox::sub(t, b) ^ x,
-        sbox::sub(t, c),
-        sbox::sub(t, d),
-        sbox::sub(t, a),
-    ]
+    put_word(w, n, a, b, c, d);
 }
 
-// KeyExpansion, the words one after the other.
+// Word n + 4 of Algorithm 2, where 4 divides n.
+fn turned_word(t: &[u8; 256], w: &mut [u8; 176], n: usize)
+    requires { ⌜ now t ≡ tab 256 sboxOf ⌝ }
+    requires { ⌜ length (now w) ≡ 176 ⌝ }
+    requires { ⌜ (n < 40) × (n % 4 ≡ 0) ⌝ }
+    ensures { λ _. ⌜ length (now (w .exit)) ≡ 176 ⌝ }
+    ensures { λ _. ⌜ ((key : List ℕ) → take (16 + 4 * n) (now (w .entry)) ≡ words n key → take (16 + 4 * (n + 1)) (now (w .exit)) ≡ words (n + 1) key) ⌝ }
+{
+    let i = n + 4;
+    let k = 4 * (i - 1);
+    let x = x_power(i / 4 - 1);
+    let a = sbox::sub(t, w[k]);
+    let b = sbox::sub(t, w[k + 1]);
+    let c = sbox::sub(t, w[k + 2]);
+    let d = sbox::sub(t, w[k + 3]);
+    put_word(w, n, b ^ x, c, d, a);
+}
+
+// KeyExpansion, four words a turn.
 pub fn expand(key: [u8; 16]) -> [u8; 176]
     ensures { λ r. ⌜ r ≡ keyExpansion key ⌝ }
 {
@@ -49,18 +81,15 @@ pub fn expand(key: [u8; 16]) -> [u8; 176]
     for i in 0..16 {
         w[i] = key[i];
     }
-    for n in 0..40 {
-        let x = temp_word(&t, &w, n + 4);
-        let i = 4 * n;
-        let k = 16 + i;
-        let a = w[i] ^ x[0];
-        let b = w[i + 1] ^ x[1];
-        let c = w[i + 2] ^ x[2];
-        let d = w[i + 3] ^ x[3];
-        w[k] = a;
-        w[k + 1] = b;
-        w[k + 2] = c;
-        w[k + 3] = d;
+    for r in 0..10 {
+        let n = 4 * r;
+        let m = n + 1;
+        let l = m + 1;
+        let k = l + 1;
+        turned_word(&t, &mut w, n);
+        plain_word(&mut w, m);
+        plain_word(&mut w, l);
+        plain_word(&mut w, k);
     }
     w
 }
