@@ -10,11 +10,6 @@ use Rattle.aes.proofs.Laws.{copied, four-words}
 use borrow.Author.Needs.{needs}
 use Rattle.aes.proofs.expand.Statement.{statement}
 use Rattle.aes.proofs.expand.Tie as tie
-use Rattle.aes.proofs.expand.Reads as reads
-use Rattle.aes.proofs.expand.Lts as lts
-use Rattle.aes.proofs.plain_word.Reads as plain-word-reads
-use Rattle.aes.proofs.turned_word.Reads as turned-word-reads
-use Rattle.sbox.proofs.table.Reads as table-reads
 
 abbrev Inv-loop : tie.InvT-loop
 Inv-loop key t w₀ i₀ w i = (i ≤ 16) × (length w ≡ 176) × (take i w ≡ take i key)
@@ -28,31 +23,24 @@ Inv-loop2 t w₀ r₀ w r = (r ≤ 10) × (length w ≡ 176) × (take (16 + 4 * 
 abbrev μ-loop2 : tie.MeasureT-loop2
 μ-loop2 t w₀ r₀ w r = 10 - r
 
--- src/lib.rt:79:13
 table-requires : tie.Need-table-requires Inv-loop μ-loop Inv-loop2 μ-loop2
 table-requires c κs = search needs
 
--- src/lib.rt:81:5
 loop-holds : tie.Need-loop-holds Inv-loop μ-loop Inv-loop2 μ-loop2
 loop-holds c = (search needs, refl, refl)
 
--- src/lib.rt:82:16
 array-read-w : tie.Need-array-read-w Inv-loop μ-loop Inv-loop2 μ-loop2
 array-read-w c = search needs
 
--- src/lib.rt:82:9
 array-write-w : tie.Need-array-write-w Inv-loop μ-loop Inv-loop2 μ-loop2
 array-write-w c = search needs
 
--- src/lib.rt:81:9
 add-i : tie.Need-add-i Inv-loop μ-loop Inv-loop2 μ-loop2
 add-i c = search needs
 
--- src/lib.rt:81:5
 loop-less : tie.Need-loop-less Inv-loop μ-loop Inv-loop2 μ-loop2
 loop-less c = search needs
 
--- src/lib.rt:81:5
 loop-again : tie.Need-loop-again Inv-loop μ-loop Inv-loop2 μ-loop2
 loop-again c =
     let w = c .before .loop .w in
@@ -60,52 +48,40 @@ loop-again c =
     let key-long : length key ≡ 16 = search needs in
     (search needs, simp length-set (c .before .loop .inv .1), copied w key (c .before .loop .i) (omega arith) (omega arith) (c .before .loop .inv .2))
 
--- src/lib.rt:84:5
 loop2-holds : tie.Need-loop2-holds Inv-loop μ-loop Inv-loop2 μ-loop2
 unfolding words
 loop2-holds c = (search needs, c .before .loop .inv .1, refl)
 
--- src/lib.rt:85:17
 mul-n : tie.Need-mul-n Inv-loop μ-loop Inv-loop2 μ-loop2
 mul-n c = search needs
 
--- src/lib.rt:86:17
 add-m : tie.Need-add-m Inv-loop μ-loop Inv-loop2 μ-loop2
 add-m c = search needs
 
--- src/lib.rt:87:17
 add-l : tie.Need-add-l Inv-loop μ-loop Inv-loop2 μ-loop2
 add-l c = search needs
 
--- src/lib.rt:88:17
 add-k : tie.Need-add-k Inv-loop μ-loop Inv-loop2 μ-loop2
 add-k c = search needs
 
--- src/lib.rt:89:9
 turned-word-requires : tie.Need-turned-word-requires Inv-loop μ-loop Inv-loop2 μ-loop2
 turned-word-requires c κs = search needs
 
--- src/lib.rt:90:9
 plain-word-requires : tie.Need-plain-word-requires Inv-loop μ-loop Inv-loop2 μ-loop2
 plain-word-requires c κs = search needs
 
--- src/lib.rt:91:9
 plain-word-requires-2 : tie.Need-plain-word-requires-2 Inv-loop μ-loop Inv-loop2 μ-loop2
 plain-word-requires-2 c κs = search needs
 
--- src/lib.rt:92:9
 plain-word-requires-3 : tie.Need-plain-word-requires-3 Inv-loop μ-loop Inv-loop2 μ-loop2
 plain-word-requires-3 c κs = search needs
 
--- src/lib.rt:84:9
 add-r : tie.Need-add-r Inv-loop μ-loop Inv-loop2 μ-loop2
 add-r c = search needs
 
--- src/lib.rt:84:5
 loop2-less : tie.Need-loop2-less Inv-loop μ-loop Inv-loop2 μ-loop2
 loop2-less c = search needs
 
--- src/lib.rt:84:5
 loop2-again : tie.Need-loop2-again Inv-loop μ-loop Inv-loop2 μ-loop2
 loop2-again c =
     let third = c .before .before in
@@ -118,7 +94,6 @@ loop2-again c =
     let d = third .plain-word2 .ensures .1 key b in
     (search needs, c .plain-word3 .ensures .0, four-words _ key (at .loop2 .r) (c .plain-word3 .ensures .1 key d))
 
--- src/lib.rt:76:1
 returns : tie.Need-returns Inv-loop μ-loop Inv-loop2 μ-loop2
 unfolding keyExpansion
 returns c =

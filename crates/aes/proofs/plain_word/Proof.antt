@@ -6,55 +6,40 @@ use Rattle.aes.proofs.Laws.{temp-plain}
 use borrow.Author.Needs.{needs}
 use Rattle.aes.proofs.plain_word.Statement.{statement}
 use Rattle.aes.proofs.plain_word.Tie as tie
-use Rattle.aes.proofs.plain_word.Reads as reads
-use Rattle.aes.proofs.plain_word.Lts as lts
-use Rattle.aes.proofs.put_word.Reads as put-word-reads
 
--- src/lib.rt:48:13
 add-i : tie.Need-add-i
 add-i c = search needs
 
--- src/lib.rt:49:18
 sub-k : tie.Need-sub-k
 sub-k c = search needs
 
--- src/lib.rt:49:13
 mul-k : tie.Need-mul-k
 mul-k c = search needs
 
--- src/lib.rt:50:13
 element-copy-out-a : tie.Need-element-copy-out-a
 element-copy-out-a c = search needs
 
--- src/lib.rt:51:15
 add-b : tie.Need-add-b
 add-b c = search needs
 
--- src/lib.rt:51:13
 element-copy-out-b : tie.Need-element-copy-out-b
 element-copy-out-b c = search needs
 
--- src/lib.rt:52:15
 add-c : tie.Need-add-c
 add-c c = search needs
 
--- src/lib.rt:52:13
 element-copy-out-c : tie.Need-element-copy-out-c
 element-copy-out-c c = search needs
 
--- src/lib.rt:53:15
 add-d : tie.Need-add-d
 add-d c = search needs
 
--- src/lib.rt:53:13
 element-copy-out-d : tie.Need-element-copy-out-d
 element-copy-out-d c = search needs
 
--- src/lib.rt:54:5
 put-word-requires : tie.Need-put-word-requires
 put-word-requires c κs = search needs
 
--- src/lib.rt:42:1
 returns : tie.Need-returns
 returns c =
     let start = c .before .before .before .before .before .before in (

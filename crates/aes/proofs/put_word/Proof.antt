@@ -5,74 +5,55 @@ use Rattle.aes.proofs.Laws.{next-word}
 use borrow.Author.Needs.{needs}
 use Rattle.aes.proofs.put_word.Statement.{statement}
 use Rattle.aes.proofs.put_word.Tie as tie
-use Rattle.aes.proofs.put_word.Reads as reads
-use Rattle.aes.proofs.put_word.Lts as lts
 
--- src/lib.rt:29:13
 mul-i : tie.Need-mul-i
 mul-i c = search needs
 
--- src/lib.rt:30:13
 add-k : tie.Need-add-k
 add-k c = search needs
 
--- src/lib.rt:31:13
 element-copy-out-e : tie.Need-element-copy-out-e
 element-copy-out-e c = search needs
 
--- src/lib.rt:32:15
 add-f : tie.Need-add-f
 add-f c = search needs
 
--- src/lib.rt:32:13
 element-copy-out-f : tie.Need-element-copy-out-f
 element-copy-out-f c = search needs
 
--- src/lib.rt:33:15
 add-g : tie.Need-add-g
 add-g c = search needs
 
--- src/lib.rt:33:13
 element-copy-out-g : tie.Need-element-copy-out-g
 element-copy-out-g c = search needs
 
--- src/lib.rt:34:15
 add-h : tie.Need-add-h
 add-h c = search needs
 
--- src/lib.rt:34:13
 element-copy-out-h : tie.Need-element-copy-out-h
 element-copy-out-h c = search needs
 
--- src/lib.rt:35:5
 element-write-w : tie.Need-element-write-w
 element-write-w c = search needs
 
--- src/lib.rt:36:7
 add-w : tie.Need-add-w
 add-w c = search needs
 
--- src/lib.rt:36:5
 element-write-w-2 : tie.Need-element-write-w-2
 element-write-w-2 c = search needs
 
--- src/lib.rt:37:7
 add-w-2 : tie.Need-add-w-2
 add-w-2 c = search needs
 
--- src/lib.rt:37:5
 element-write-w-3 : tie.Need-element-write-w-3
 element-write-w-3 c = search needs
 
--- src/lib.rt:38:7
 add-w-3 : tie.Need-add-w-3
 add-w-3 c = search needs
 
--- src/lib.rt:38:5
 element-write-w-4 : tie.Need-element-write-w-4
 element-write-w-4 c = search needs
 
--- src/lib.rt:23:1
 returns : tie.Need-returns
 returns c =
     let start = c .before .before .before .before in

@@ -6,81 +6,58 @@ use Rattle.aes.proofs.Laws.{temp-turned}
 use borrow.Author.Needs.{needs}
 use Rattle.aes.proofs.turned_word.Statement.{statement}
 use Rattle.aes.proofs.turned_word.Tie as tie
-use Rattle.aes.proofs.turned_word.Reads as reads
-use Rattle.aes.proofs.turned_word.Lts as lts
-use Rattle.aes.proofs.put_word.Reads as put-word-reads
-use Rattle.aes.proofs.x_power.Reads as x-power-reads
-use Rattle.sbox.proofs.sub.Reads as sub-reads
 
--- src/lib.rt:65:13
 add-i : tie.Need-add-i
 add-i c = search needs
 
--- src/lib.rt:66:18
 sub-k : tie.Need-sub-k
 sub-k c = search needs
 
--- src/lib.rt:66:13
 mul-k : tie.Need-mul-k
 mul-k c = search needs
 
--- src/lib.rt:67:21
 sub-x-power : tie.Need-sub-x-power
 sub-x-power c = search needs
 
--- src/lib.rt:67:9
 x-power-requires : tie.Need-x-power-requires
 x-power-requires c κs = search needs
 
--- src/lib.rt:68:26
 element-copy-out-sub : tie.Need-element-copy-out-sub
 element-copy-out-sub c = search needs
 
--- src/lib.rt:68:9
 sub-requires : tie.Need-sub-requires
 sub-requires c κs = search needs
 
--- src/lib.rt:69:28
 add-sub : tie.Need-add-sub
 add-sub c = search needs
 
--- src/lib.rt:69:26
 element-copy-out-sub-2 : tie.Need-element-copy-out-sub-2
 element-copy-out-sub-2 c = search needs
 
--- src/lib.rt:69:9
 sub-requires-2 : tie.Need-sub-requires-2
 sub-requires-2 c κs = search needs
 
--- src/lib.rt:70:28
 add-sub-2 : tie.Need-add-sub-2
 add-sub-2 c = search needs
 
--- src/lib.rt:70:26
 element-copy-out-sub-3 : tie.Need-element-copy-out-sub-3
 element-copy-out-sub-3 c = search needs
 
--- src/lib.rt:70:9
 sub-requires-3 : tie.Need-sub-requires-3
 sub-requires-3 c κs = search needs
 
--- src/lib.rt:71:28
 add-sub-3 : tie.Need-add-sub-3
 add-sub-3 c = search needs
 
--- src/lib.rt:71:26
 element-copy-out-sub-4 : tie.Need-element-copy-out-sub-4
 element-copy-out-sub-4 c = search needs
 
--- src/lib.rt:71:9
 sub-requires-4 : tie.Need-sub-requires-4
 sub-requires-4 c κs = search needs
 
--- src/lib.rt:72:5
 put-word-requires : tie.Need-put-word-requires
 put-word-requires c κs = search needs
 
--- src/lib.rt:58:1
 returns : tie.Need-returns
 returns c =
     let last = c .before .before in

@@ -5,32 +5,23 @@ use Rattle.aes_wide.proofs.Laws.{flat-counters, of-counters}
 use borrow.Author.Needs.{needs}
 use Rattle.aes_wide.proofs.counter_blocks.Statement.{statement}
 use Rattle.aes_wide.proofs.counter_blocks.Tie as tie
-use Rattle.aes_wide.proofs.counter_blocks.Reads as reads
-use Rattle.aes_wide.proofs.counter_blocks.Lts as lts
-use Rattle.aes_wide.proofs.counters.Reads as counters-reads
-use Rattle.aes_wide.proofs.encrypt.Reads as encrypt-reads
 
--- src/lib.rt:211:5
 counters-requires : tie.Need-counters-requires
 counters-requires c κs = search needs
 
--- src/lib.rt:213:9
 encrypt-requires : tie.Need-encrypt-requires
 encrypt-requires c κs =
     let counted = c .before .before .before in
     (search needs, λ close. flat-counters _ (counted .before .before .args .j) (counted .counters .ensures) (c .before .before .if1 .taken))
 
--- src/lib.rt:214:9
 returns : tie.Need-returns
 returns c =
     let counted = c .before .before .before .before in
     of-counters (counted .before .before .args .w .now) _ (counted .before .before .args .j) (counted .counters .ensures) (c .encrypt .ensures .0 refl)
 
--- src/lib.rt:216:5
 encrypt-requires-2 : tie.Need-encrypt-requires-2
 encrypt-requires-2 c κs = (search needs, λ close. absurd (false≢true close))
 
--- src/lib.rt:205:1
 returns-2 : tie.Need-returns-2
 returns-2 c =
     let counted = c .before .before .before .before in

@@ -10,13 +10,6 @@ use Rattle.aes_wide.proofs.Laws.{no-rounds, one-round, all-rounds, all-
 use borrow.Author.Needs.{needs}
 use Rattle.aes_wide.proofs.encrypt.Statement.{statement}
 use Rattle.aes_wide.proofs.encrypt.Tie as tie
-use Rattle.aes_wide.proofs.encrypt.Reads as reads
-use Rattle.aes_wide.proofs.encrypt.Lts as lts
-use Rattle.aes_wide.proofs.first_key.Reads as first-key-reads
-use Rattle.aes_wide.proofs.last_round.Reads as last-round-reads
-use Rattle.aes_wide.proofs.mix_key.Reads as mix-key-reads
-use Rattle.aes_wide.proofs.sub_shift_at.Reads as sub-shift-at-reads
-use Rattle.sbox.proofs.table.Reads as table-reads
 
 abbrev Inv-loop : tie.InvT-loop
 Inv-loop w close apart s r t u₀ v₀ n₀ u v n =
@@ -26,15 +19,12 @@ Inv-loop w close apart s r t u₀ v₀ n₀ u v n =
 abbrev μ-loop : tie.MeasureT-loop
 μ-loop w close apart s r t u₀ v₀ n₀ u v n = 9 - n
 
--- src/lib.rt:185:13
 table-requires : tie.Need-table-requires Inv-loop μ-loop
 table-requires c κs = search needs
 
--- src/lib.rt:188:5
 first-key-requires : tie.Need-first-key-requires Inv-loop μ-loop
 first-key-requires c κs = search needs
 
--- src/lib.rt:189:5
 loop-holds : tie.Need-loop-holds Inv-loop μ-loop
 loop-holds c =
     let start = c .before .before .before in (
@@ -45,29 +35,23 @@ loop-holds c =
       (λ yes second. let z : ⊥ = omega arith in absurd z),
     )
 
--- src/lib.rt:190:9
 sub-shift-at-requires : tie.Need-sub-shift-at-requires Inv-loop μ-loop
 sub-shift-at-requires c κs =
     let at = c .before .before .before .before .loop in
     (search needs, (search needs, (at .inv .3, at .inv .4)))
 
--- src/lib.rt:191:20
 add-mix-key : tie.Need-add-mix-key Inv-loop μ-loop
 add-mix-key c = search needs
 
--- src/lib.rt:191:9
 mix-key-requires : tie.Need-mix-key-requires Inv-loop μ-loop
 mix-key-requires c κs = search needs
 
--- src/lib.rt:189:9
 add-n : tie.Need-add-n Inv-loop μ-loop
 add-n c = search needs
 
--- src/lib.rt:189:5
 loop-less : tie.Need-loop-less Inv-loop μ-loop
 loop-less c = search needs
 
--- src/lib.rt:189:5
 loop-again : tie.Need-loop-again Inv-loop μ-loop
 loop-again c =
     let at = c .before .before .before .before .before .before .before .before .loop in

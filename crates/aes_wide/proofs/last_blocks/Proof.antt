@@ -6,9 +6,6 @@ use Rattle.aes_wide.proofs.Laws.{Pieces, pieces-start, piece-more, piec
 use borrow.Author.Needs.{needs}
 use Rattle.aes_wide.proofs.last_blocks.Statement.{statement}
 use Rattle.aes_wide.proofs.last_blocks.Tie as tie
-use Rattle.aes_wide.proofs.last_blocks.Reads as reads
-use Rattle.aes_wide.proofs.last_blocks.Lts as lts
-use Rattle.sbox.proofs.sub.Reads as sub-reads
 
 abbrev Inv-loop2 : tie.InvT-loop2
 Inv-loop2 t w s r₀ l p₀ r p = Pieces r l p (λ m. addKey w 10 (shiftRows (subBytes (lane s m))))
@@ -22,67 +19,51 @@ Inv-loop t w s r₀ l₀ r l = Pieces r l 0 (λ m. addKey w 10 (shiftRows (subBy
 abbrev μ-loop : tie.MeasureT-loop
 μ-loop t w s r₀ l₀ r l = 16 - l
 
--- src/lib.rt:185:5
 loop-holds : tie.Need-loop-holds Inv-loop2 μ-loop2 Inv-loop μ-loop
 loop-holds c = pieces-start _ _ (c .pre .1)
 
--- src/lib.rt:186:9
 loop2-holds : tie.Need-loop2-holds Inv-loop2 μ-loop2 Inv-loop μ-loop
 loop2-holds c = c .before .loop .inv
 
--- src/lib.rt:187:32
 mul-b : tie.Need-mul-b Inv-loop2 μ-loop2 Inv-loop μ-loop
 mul-b c = search needs
 
--- src/lib.rt:187:28
 add-b : tie.Need-add-b Inv-loop2 μ-loop2 Inv-loop μ-loop
 add-b c = search needs
 
--- src/lib.rt:187:21
 mul-b-2 : tie.Need-mul-b-2 Inv-loop2 μ-loop2 Inv-loop μ-loop
 mul-b-2 c = search needs
 
--- src/lib.rt:188:25
 add-key : tie.Need-add-key Inv-loop2 μ-loop2 Inv-loop μ-loop
 add-key c = search needs
 
--- src/lib.rt:188:23
 element-copy-out-key : tie.Need-element-copy-out-key Inv-loop2 μ-loop2 Inv-loop μ-loop
 element-copy-out-key c = search needs
 
--- src/lib.rt:189:44
 add-sub : tie.Need-add-sub Inv-loop2 μ-loop2 Inv-loop μ-loop
 add-sub c = search needs
 
--- src/lib.rt:189:42
 element-copy-out-sub : tie.Need-element-copy-out-sub Inv-loop2 μ-loop2 Inv-loop μ-loop
 element-copy-out-sub c = search needs
 
--- src/lib.rt:189:29
 sub-requires : tie.Need-sub-requires Inv-loop2 μ-loop2 Inv-loop μ-loop
 sub-requires c κs = search needs
 
--- src/lib.rt:189:15
 mul-r : tie.Need-mul-r Inv-loop2 μ-loop2 Inv-loop μ-loop
 mul-r c = search needs
 
--- src/lib.rt:189:15
 add-r : tie.Need-add-r Inv-loop2 μ-loop2 Inv-loop μ-loop
 add-r c = search needs
 
--- src/lib.rt:189:13
 element-write-r : tie.Need-element-write-r Inv-loop2 μ-loop2 Inv-loop μ-loop
 element-write-r c = search needs
 
--- src/lib.rt:186:13
 add-p : tie.Need-add-p Inv-loop2 μ-loop2 Inv-loop μ-loop
 add-p c = search needs
 
--- src/lib.rt:186:9
 loop2-less : tie.Need-loop2-less Inv-loop2 μ-loop2 Inv-loop μ-loop
 loop2-less c = search needs
 
--- src/lib.rt:186:9
 loop2-again : tie.Need-loop2-again Inv-loop2 μ-loop2 Inv-loop μ-loop
 loop2-again c =
     let turn = c .before .before .before .before .before in
@@ -92,19 +73,15 @@ loop2-again c =
     (last-value (start .args .w .now) (start .args .s .now) (at .loop2 .p) (turn .before .loop .l) (c .sub .result) (c .before .before .before .loop2-test .taken)
     (c .sub .ensures))
 
--- src/lib.rt:185:9
 add-l : tie.Need-add-l Inv-loop2 μ-loop2 Inv-loop μ-loop
 add-l c = search needs
 
--- src/lib.rt:185:5
 loop-less : tie.Need-loop-less Inv-loop2 μ-loop2 Inv-loop μ-loop
 loop-less c = search needs
 
--- src/lib.rt:185:5
 loop-again : tie.Need-loop-again Inv-loop2 μ-loop2 Inv-loop μ-loop
 loop-again c = piece-next (c .before .loop2 .inv) (c .loop2-test .left)
 
--- src/lib.rt:180:1
 returns : tie.Need-returns Inv-loop2 μ-loop2 Inv-loop μ-loop
 returns c = pieces-end (c .before .loop .inv) (c .loop-test .left) (λ m. key-size (c .before .before .args .w .now) (shiftRows (subBytes (lane (c .before .before .args .s .now) m))) 10)
 

@@ -4,15 +4,10 @@ use mathlib.Core.Path.{refl}
 use borrow.Author.Needs.{needs}
 use Rattle.aes_wide.proofs.sixteen.Statement.{statement}
 use Rattle.aes_wide.proofs.sixteen.Tie as tie
-use Rattle.aes_wide.proofs.sixteen.Reads as reads
-use Rattle.aes_wide.proofs.sixteen.Lts as lts
-use Rattle.aes_wide.proofs.encrypt.Reads as encrypt-reads
 
--- src/lib.rt:201:5
 encrypt-requires : tie.Need-encrypt-requires
 encrypt-requires c κs = (search needs, λ close. absurd (false≢true close))
 
--- src/lib.rt:197:1
 returns : tie.Need-returns
 returns c = c .encrypt .ensures .1 refl
 

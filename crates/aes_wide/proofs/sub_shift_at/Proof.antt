@@ -2,37 +2,26 @@
 use borrow.Author.Needs.{needs}
 use Rattle.aes_wide.proofs.sub_shift_at.Statement.{statement}
 use Rattle.aes_wide.proofs.sub_shift_at.Tie as tie
-use Rattle.aes_wide.proofs.sub_shift_at.Reads as reads
-use Rattle.aes_wide.proofs.sub_shift_at.Lts as lts
-use Rattle.aes_wide.proofs.sub_shift.Reads as sub-shift-reads
-use Rattle.aes_wide.proofs.sub_shift_four.Reads as sub-shift-four-reads
-use Rattle.aes_wide.proofs.sub_shift_one.Reads as sub-shift-one-reads
 
--- src/lib.rt:127:13
 sub-shift-one-requires : tie.Need-sub-shift-one-requires
 sub-shift-one-requires c κs =
     let start = c .before .before .before in
     (search needs, (search needs, start .pre .1 .1 .0 (c .before .before .if1 .taken) (c .before .if2 .taken)))
 
--- src/lib.rt:128:13
 returns : tie.Need-returns
 returns c = search needs
 
--- src/lib.rt:131:13
 sub-shift-four-requires : tie.Need-sub-shift-four-requires
 sub-shift-four-requires c κs =
     let start = c .before .before .before .before in
     (search needs, (search needs, start .pre .1 .1 .1 (c .before .before .before .if1 .taken) (c .before .if3 .taken)))
 
--- src/lib.rt:132:13
 returns-2 : tie.Need-returns-2
 returns-2 c = search needs
 
--- src/lib.rt:135:5
 sub-shift-requires : tie.Need-sub-shift-requires
 sub-shift-requires c κs = search needs
 
--- src/lib.rt:118:1
 returns-3 : tie.Need-returns-3
 returns-3 c = search needs
 

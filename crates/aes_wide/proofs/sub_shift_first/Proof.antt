@@ -6,9 +6,6 @@ use Rattle.aes_wide.proofs.Laws.{Rows, rows-start, row-more, row-next, 
 use borrow.Author.Needs.{needs}
 use Rattle.aes_wide.proofs.sub_shift_first.Statement.{statement}
 use Rattle.aes_wide.proofs.sub_shift_first.Tie as tie
-use Rattle.aes_wide.proofs.sub_shift_first.Reads as reads
-use Rattle.aes_wide.proofs.sub_shift_first.Lts as lts
-use Rattle.sbox.proofs.sub.Reads as sub-reads
 
 abbrev Inv-loop2 : tie.InvT-loop2
 Inv-loop2 t s r₀ p b x l₀ r l = Rows r p l (λ k. shiftRows (subBytes (lane s 0)))
@@ -22,74 +19,57 @@ Inv-loop t s r₀ p₀ r p = Rows r p 0 (λ k. shiftRows (subBytes (lane s 0)))
 abbrev μ-loop : tie.MeasureT-loop
 μ-loop t s r₀ p₀ r p = 16 - p
 
--- src/lib.rt:70:5
 loop-holds : tie.Need-loop-holds Inv-loop2 μ-loop2 Inv-loop μ-loop
 loop-holds c = rows-start _ _ (c .pre .1)
 
--- src/lib.rt:71:28
 mul-b : tie.Need-mul-b Inv-loop2 μ-loop2 Inv-loop μ-loop
 mul-b c = search needs
 
--- src/lib.rt:71:24
 add-b : tie.Need-add-b Inv-loop2 μ-loop2 Inv-loop μ-loop
 add-b c = search needs
 
--- src/lib.rt:71:17
 mul-b-2 : tie.Need-mul-b-2 Inv-loop2 μ-loop2 Inv-loop μ-loop
 mul-b-2 c = search needs
 
--- src/lib.rt:72:30
 element-copy-out-sub : tie.Need-element-copy-out-sub Inv-loop2 μ-loop2 Inv-loop μ-loop
 element-copy-out-sub c = search needs
 
--- src/lib.rt:72:13
 sub-requires : tie.Need-sub-requires Inv-loop2 μ-loop2 Inv-loop μ-loop
 sub-requires c κs = search needs
 
--- src/lib.rt:73:9
 loop2-holds : tie.Need-loop2-holds Inv-loop2 μ-loop2 Inv-loop μ-loop
 loop2-holds c = c .before .before .before .loop .inv
 
--- src/lib.rt:74:15
 mul-r : tie.Need-mul-r Inv-loop2 μ-loop2 Inv-loop μ-loop
 mul-r c = search needs
 
--- src/lib.rt:74:15
 add-r : tie.Need-add-r Inv-loop2 μ-loop2 Inv-loop μ-loop
 add-r c = search needs
 
--- src/lib.rt:74:13
 element-write-r : tie.Need-element-write-r Inv-loop2 μ-loop2 Inv-loop μ-loop
 element-write-r c = search needs
 
--- src/lib.rt:73:13
 add-l : tie.Need-add-l Inv-loop2 μ-loop2 Inv-loop μ-loop
 add-l c = search needs
 
--- src/lib.rt:73:9
 loop2-less : tie.Need-loop2-less Inv-loop2 μ-loop2 Inv-loop μ-loop
 loop2-less c = search needs
 
--- src/lib.rt:73:9
 loop2-again : tie.Need-loop2-again Inv-loop2 μ-loop2 Inv-loop μ-loop
 loop2-again c =
     let turn = c .before .before .before .before in
     row-more (c .before .loop2 .inv) (turn .loop-test .taken) (c .loop2-test .taken)
     (first-value (turn .before .before .args .s .now) (turn .before .loop .p) (c .before .before .sub .result) (turn .loop-test .taken) (c .before .before .sub .ensures))
 
--- src/lib.rt:70:9
 add-p : tie.Need-add-p Inv-loop2 μ-loop2 Inv-loop μ-loop
 add-p c = search needs
 
--- src/lib.rt:70:5
 loop-less : tie.Need-loop-less Inv-loop2 μ-loop2 Inv-loop μ-loop
 loop-less c = search needs
 
--- src/lib.rt:70:5
 loop-again : tie.Need-loop-again Inv-loop2 μ-loop2 Inv-loop μ-loop
 loop-again c = row-next (c .before .loop2 .inv) (c .loop2-test .left)
 
--- src/lib.rt:65:1
 returns : tie.Need-returns Inv-loop2 μ-loop2 Inv-loop μ-loop
 returns c = rows-end (c .before .loop .inv) (c .loop-test .left) (λ k. sub-size (subBytes (lane (c .before .before .args .s .now) 0)))
 

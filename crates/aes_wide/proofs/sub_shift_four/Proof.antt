@@ -3,32 +3,22 @@ use Rattle.aes_wide.proofs.Laws.{four-right}
 use borrow.Author.Needs.{needs}
 use Rattle.aes_wide.proofs.sub_shift_four.Statement.{statement}
 use Rattle.aes_wide.proofs.sub_shift_four.Tie as tie
-use Rattle.aes_wide.proofs.sub_shift_four.Reads as reads
-use Rattle.aes_wide.proofs.sub_shift_four.Lts as lts
-use Rattle.aes_wide.proofs.sub_shift_first.Reads as sub-shift-first-reads
-use Rattle.aes_wide.proofs.sub_shift_row.Reads as sub-shift-row-reads
 
--- src/lib.rt:110:5
 sub-shift-first-requires : tie.Need-sub-shift-first-requires
 sub-shift-first-requires c κs = search needs
 
--- src/lib.rt:111:5
 sub-shift-row-requires : tie.Need-sub-shift-row-requires
 sub-shift-row-requires c κs = search needs
 
--- src/lib.rt:112:5
 sub-shift-row-requires-2 : tie.Need-sub-shift-row-requires-2
 sub-shift-row-requires-2 c κs = search needs
 
--- src/lib.rt:113:5
 sub-shift-row-requires-3 : tie.Need-sub-shift-row-requires-3
 sub-shift-row-requires-3 c κs = search needs
 
--- src/lib.rt:114:5
 sub-shift-row-requires-4 : tie.Need-sub-shift-row-requires-4
 sub-shift-row-requires-4 c κs = search needs
 
--- src/lib.rt:104:1
 returns : tie.Need-returns
 returns c =
     let first = c .before .before .before .before .before .before .before .before in

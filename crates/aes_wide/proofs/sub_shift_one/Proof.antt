@@ -3,20 +3,13 @@ use Rattle.aes_wide.proofs.Laws.{one-right}
 use borrow.Author.Needs.{needs}
 use Rattle.aes_wide.proofs.sub_shift_one.Statement.{statement}
 use Rattle.aes_wide.proofs.sub_shift_one.Tie as tie
-use Rattle.aes_wide.proofs.sub_shift_one.Reads as reads
-use Rattle.aes_wide.proofs.sub_shift_one.Lts as lts
-use Rattle.aes_wide.proofs.sub_shift_first.Reads as sub-shift-first-reads
-use Rattle.aes_wide.proofs.sub_shift_row.Reads as sub-shift-row-reads
 
--- src/lib.rt:99:5
 sub-shift-first-requires : tie.Need-sub-shift-first-requires
 sub-shift-first-requires c κs = search needs
 
--- src/lib.rt:100:5
 sub-shift-row-requires : tie.Need-sub-shift-row-requires
 sub-shift-row-requires c κs = search needs
 
--- src/lib.rt:93:1
 returns : tie.Need-returns
 returns c =
     let start = c .before .before .before .before in

@@ -8,9 +8,6 @@ use Rattle.aes_wide.proofs.Laws.{patch-none, patch-more, patch-end, sub
 use borrow.Author.Needs.{needs}
 use Rattle.aes_wide.proofs.sub_shift_row.Statement.{statement}
 use Rattle.aes_wide.proofs.sub_shift_row.Tie as tie
-use Rattle.aes_wide.proofs.sub_shift_row.Reads as reads
-use Rattle.aes_wide.proofs.sub_shift_row.Lts as lts
-use Rattle.sbox.proofs.sub.Reads as sub-reads
 
 abbrev Inv-loop : tie.InvT-loop
 Inv-loop t s p r₀ b l₀ r l = (l ≤ 16) × Patched (λ k. shiftRows (subBytes (lane s k))) p l r₀ r
@@ -18,55 +15,42 @@ Inv-loop t s p r₀ b l₀ r l = (l ≤ 16) × Patched (λ k. shiftRows (subByte
 abbrev μ-loop : tie.MeasureT-loop
 μ-loop t s p r₀ b l₀ r l = 16 - l
 
--- src/lib.rt:86:24
 mul-b : tie.Need-mul-b Inv-loop μ-loop
 mul-b c = search needs
 
--- src/lib.rt:86:20
 add-b : tie.Need-add-b Inv-loop μ-loop
 add-b c = search needs
 
--- src/lib.rt:86:13
 mul-b-2 : tie.Need-mul-b-2 Inv-loop μ-loop
 mul-b-2 c = search needs
 
--- src/lib.rt:87:5
 loop-holds : tie.Need-loop-holds Inv-loop μ-loop
 loop-holds c = (search needs, patch-none _ _ _ (c .pre .1 .1))
 
--- src/lib.rt:88:40
 add-sub : tie.Need-add-sub Inv-loop μ-loop
 add-sub c = search needs
 
--- src/lib.rt:88:38
 element-copy-out-sub : tie.Need-element-copy-out-sub Inv-loop μ-loop
 element-copy-out-sub c = search needs
 
--- src/lib.rt:88:25
 sub-requires : tie.Need-sub-requires Inv-loop μ-loop
 sub-requires c κs = search needs
 
--- src/lib.rt:88:11
 mul-r : tie.Need-mul-r Inv-loop μ-loop
 mul-r c = search needs
 
--- src/lib.rt:88:11
 add-r : tie.Need-add-r Inv-loop μ-loop
 add-r c = search needs
 
--- src/lib.rt:88:9
 element-write-r : tie.Need-element-write-r Inv-loop μ-loop
 element-write-r c = search needs
 
--- src/lib.rt:87:9
 add-l : tie.Need-add-l Inv-loop μ-loop
 add-l c = search needs
 
--- src/lib.rt:87:5
 loop-less : tie.Need-loop-less Inv-loop μ-loop
 loop-less c = search needs
 
--- src/lib.rt:87:5
 loop-again : tie.Need-loop-again Inv-loop μ-loop
 loop-again c =
     let at = c .before .before .before in
@@ -76,7 +60,6 @@ loop-again c =
           (sub-value (start .args .s .now) (start .args .p) (at .loop .l) (c .sub .result) (start .pre .1 .0) (c .sub .ensures)),
     )
 
--- src/lib.rt:80:1
 returns : tie.Need-returns Inv-loop μ-loop
 returns c = let all : c .before .loop .l ≡ 16 = omega arith in patch-end (c .before .loop .inv .1) all
 
