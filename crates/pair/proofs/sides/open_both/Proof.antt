@@ -37,8 +37,7 @@ open-side-requires-2 c κs =
 -- src/sides.rt:45:5
 join-party-requires : tie.Need-join-party-requires
 join-party-requires c κs =
-    let p = c .before .before .before .before .before .before .before .before .before .before .before .before .before .before .before .before .before .before .before .before .before .before .before .before .before .before .before .before .pre in
-    (
+    let p = c .before .before .before .before .before .before .before .before .before .before .before .before .before .before .before .before .before .before .before .before .before .before .before .before .before .before .before .before .pre in (
       limits-in (p .0),
       (
         p .1 .0 .below,

@@ -19,8 +19,7 @@ open-both-requires c κs =
 find-requires : tie.Need-find-requires
 find-requires c κs =
     let p = c .before .before .before .before .before .before .before .before .before .before .before .before .before .before .before .before .before .before .before .before .before .before .before .before .before .before .before .before .before .before .before .before .before .pre in
-    let both = c .before .before .before .before .before .before .before .before .before .before .before .before .before .before .before .open-both .ensures in
-    (
+    let both = c .before .before .before .before .before .before .before .before .before .before .before .before .before .before .before .open-both .ensures in (
       p .0,
       (
         omega (arith, p .1 .0 .within, p .0 .M-most),
