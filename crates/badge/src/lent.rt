@@ -2,11 +2,26 @@
 
 ghost use mathlib.Core.Path.{_≡_};
 ghost use lib.ListN.{length};
+ghost use Rattle.refusals.specs.Number.{numberOf};
 ghost use Rattle.protocol.specs.Key.{keyOf};
+ghost use Rattle.protocol.specs.Judge.{judgeLent};
 ghost use Rattle.protocol.specs.Prover.{message1, message3, message5, message7, verdict1, verdict3, verdict5, verdict7, output};
 ghost use Rattle.prover.specs.Answers.{answerOf};
 ghost use Rattle.badge.specs.Code.{codeOf};
 use crate::code::code;
+
+// The first number of document 01's table that applies to a key and a transcript, or 0: accepted.
+#[no_mangle]
+pub extern "C" fn badge_judge_lent(
+    key: &[u8],
+    run: &[u8],
+    entries: &mut [u32],
+    work: &mut [u32],
+) -> u32
+    ensures { λ r. ⌜ r ≡ numberOf (judgeLent (now (key .entry)) (length (now (work .entry))) (length (now (entries .entry))) (now (run .entry))) ⌝ }
+{
+    judge::run::judge(key, run, entries, work)
+}
 
 // Message 1 into the output from a place on.
 #[no_mangle]

@@ -1,8 +1,10 @@
-// The calls for C: the judge, and the prover's messages as the length that was written, or minus the refusal's number.
+// The calls for C: the judge, the prover's messages as the length that was written, and the pair reader's finding, or minus the
+// refusal's number.
 
 pub mod code;
 pub mod lent;
 pub mod messages;
+pub mod pairs;
 
 ghost use mathlib.Core.Path.{_≡_};
 ghost use Rattle.refusals.specs.Number.{numberOf};

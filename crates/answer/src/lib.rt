@@ -1,0 +1,59 @@
+// The pair reader's answer as numbers for C.
+
+ghost use mathlib.Core.Path.{_≡_};
+ghost use Prim.Native.Nat.{_%_, _≤_};
+ghost use lib.ListN.{length};
+ghost use Rattle.answer.specs.Rows.{findingOf, row, rowAfter};
+use prover::Answer;
+use reading::Reading;
+
+// 1 to 4 for the finding, or the refusal's number.
+pub fn finding_of(r: Reading) -> Answer
+    ensures { λ a. ⌜ a ≡ findingOf r ⌝ }
+{
+    match r {
+        Reading::Refused(n) => Answer::Refused(n),
+        Reading::Collision(_, _, _, _) => Answer::Length(1),
+        Reading::Secret => Answer::Length(2),
+        Reading::Square(_, _, _, _) => Answer::Length(3),
+        Reading::Errors(_) => Answer::Length(4),
+    }
+}
+
+// A number as 32 bits hold it.
+fn word(x: usize) -> u32
+    ensures { λ r. ⌜ r ≡ x % 4294967296 ⌝ }
+{
+    (x % 4294967296) as u32
+}
+
+// Seven numbers and 0.
+fn fill(out: &mut [u32], kind: u32, e: u32, i: u32, size: u32, k: u32, b: u32, d: u32)
+    requires { ⌜ length (now out) ≡ 8 ⌝ }
+    ensures { λ _. ⌜ now (out .exit) ≡ row kind e i size k b d ⌝ }
+{
+    out[0] = kind;
+    out[1] = e;
+    out[2] = i;
+    out[3] = size;
+    out[4] = k;
+    out[5] = b;
+    out[6] = d;
+    out[7] = 0;
+}
+
+// The eight numbers of a finding to the front of a list.
+pub fn write_row(r: Reading, answer: &mut [u32])
+    requires { ⌜ 8 ≤ length (now answer) ⌝ }
+    ensures { λ _. ⌜ now (answer .exit) ≡ rowAfter r (now (answer .entry)) ⌝ }
+{
+    match r {
+        Reading::Refused(_) => {}
+        Reading::Collision(kind, e, i, n) => {
+            fill(&mut answer[..8], kind, word(e), word(i), word(n), 0, 0, 0)
+        }
+        Reading::Secret => fill(&mut answer[..8], 0, 0, 0, 0, 0, 0, 0),
+        Reading::Square(e, k, b, d) => fill(&mut answer[..8], 0, word(e), 0, 0, word(k), b, d),
+        Reading::Errors(e) => fill(&mut answer[..8], 0, word(e), 0, 0, 0, 0, 0),
+    }
+}
