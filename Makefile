@@ -19,9 +19,6 @@ BUILD = target/tests
 VECTORS = tests/vectors
 SAMPLES = 16000
 
-# Calls of include/badge.h that the library does not have yet; tests/c/standin.c stands in for them.
-MISSING = MESSAGES MESSAGES_LENT JUDGE_LENT PAIR PAIR_LENT
-
 REFERENCE = $(addprefix reference/,sha256.c aes128.c streams.c key.c tree.c execution.c transcript.c prover.c judge.c pair.c)
 HEADERS = $(wildcard include/*.h reference/*.h tests/c/*.h)
 LIBBADGE = target/staticlib/libbadge.a
@@ -33,7 +30,7 @@ LIBPRIMITIVES = target/staticlib/libprimitives.a
 test:
 	./.ci/run
 
-tests: claims reference definitions primitives calls $(if $(filter PAIR,$(MISSING)),,weak) beside program stack demo
+tests: claims reference definitions primitives calls weak beside program stack demo
 
 claims:
 	python3 tools/check_claims.py
@@ -71,10 +68,9 @@ $(BUILD)/%/reference.o: $(REFERENCE) reference/samples.c reference/calls.c $(HEA
 	mkdir -p $(@D)
 	$(CC) $(CFLAGS) $(FLAGS_$*) -r -o $@ $(REFERENCE) reference/samples.c reference/calls.c
 
-$(BUILD)/%/badge.o: reference/calls.c tests/c/standin.c $(HEADERS) Makefile
+$(BUILD)/%/badge.o: reference/calls.c $(HEADERS) Makefile
 	mkdir -p $(@D)
-	$(CC) $(CFLAGS) $(FLAGS_$*) -DBADGE $(addprefix -DSTANDIN_,$(MISSING)) -r -o $@ reference/calls.c tests/c/standin.c
-	$(if $(MISSING),@echo "the second implementation stands in for: $(MISSING)")
+	$(CC) $(CFLAGS) $(FLAGS_$*) -DBADGE -r -o $@ reference/calls.c
 
 # The library on vectors.
 
@@ -151,7 +147,7 @@ lib: $(LIBBADGE)
 	mkdir -p dist
 	cp $(LIBBADGE) include/badge.h dist/
 
-$(BUILD)/demo: examples/firmware.c lib $(if $(MISSING),$(BUILD)/O2/badge.o $(BUILD)/O2/reference.o) | $(BUILD)
+$(BUILD)/demo: examples/firmware.c lib | $(BUILD)
 	$(CC) -std=c11 -Wall -Wextra -Wpedantic -O2 -Idist -o $@ $(filter %.c %.o,$^) dist/libbadge.a
 
 demo: $(BUILD)/demo

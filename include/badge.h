@@ -93,8 +93,8 @@ enum {
 enum {
     BADGE_STACK = 94000,          /* a message, the judge */
     BADGE_STACK_LENT = 12000,     /* the same with lent lists */
-    BADGE_STACK_PAIR = 204000,    /* the pair reader */
-    BADGE_STACK_PAIR_LENT = 122000
+    BADGE_STACK_PAIR = 138000,    /* the pair reader */
+    BADGE_STACK_PAIR_LENT = 56000
 };
 
 /* Level 1, the prover.

@@ -1,4 +1,4 @@
-// AES-128, sixteen blocks at a time: byte p of block l stands at place 16 p + l.
+// AES-128, sixteen blocks at a time: byte p of block l stands at place 16 p + l, or, once counter blocks are done, at 16 l + p.
 
 ghost use mathlib.Core.Bool.{true, false};
 ghost use mathlib.Core.Path.{_≡_};

@@ -1,4 +1,4 @@
-// Commitments and hash inputs. Every hash of the protocol is begun here, from its kind, execution and party.
+// Commitments. A hash that is fed piece by piece is begun here, from its kind, execution and party.
 
 ghost use mathlib.Core.Path.{_≡_};
 ghost use mathlib.Core.List.{_++_};

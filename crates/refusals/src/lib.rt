@@ -24,6 +24,7 @@ pub const SECRET_IMAGE: u32 = 9;
 // The hidden list isn't M - τ values in 1..N.
 pub const HIDDEN_LIST: u32 = 10;
 
+// Lent outputs and work lists.
 // A lent output or work list is too short, or the place is past the output's end.
 pub const ROOM: u32 = 11;
 

@@ -1,4 +1,4 @@
-// All executions of a transcript in turn, and the three hashes over them.
+// All executions of a transcript in turn, and the inputs of the three hashes over them.
 
 ghost use mathlib.Core.Path.{_≡_};
 ghost use mathlib.Core.Bool.{false};
