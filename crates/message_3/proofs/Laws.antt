@@ -16,9 +16,9 @@ use Rattle.sha_core.specs.Fips180.{sha256}
 use Rattle.protocol.specs.Key.{Key, depth}
 use Rattle.protocol.specs.Shares.{View, dealt, Ωin, Πin, b, s, input}
 use Rattle.protocol.specs.Prover.{proverView, kept, hπin, sized, opened, message3}
-use Rattle.execution.specs.Shown.{Sized, Holds, Shown, placeOf}
-use Rattle.execution.specs.Prepared.{Dealt}
+use Rattle.execution.specs.Shown.{Sized, Holds, placeOf}
 use Rattle.execution.specs.Begun.{Begun}
+use Rattle.masks.specs.Masks.{Carried, Masked}
 use Rattle.views.specs.Seen.{ForΩ, ForΠ}
 use Rattle.prover.proofs.Laws.{puts-none, puts-some, built-none, built-more, built-all, both-parts}
 use Rattle.message_3.specs.Parts.{OmegaOf, PiOf, KeptPuts, KeptBuilt, KeptAll, KeptPart, Rest}
@@ -28,7 +28,7 @@ s-last : (K : Key) (v : View) (k i : ℕ) → suc i ≡ K .N → s K v k i ≡ v
 unfolding s
 s-last K v k i e = pick-true (eqb (suc i) (K .N)) _ _ (eq-eqb (suc i) (K .N) e)
 
-module _ {q m N e : ℕ} {leaves work : List ℕ} (K : Key) (v : View) (sized : Sized q m N K) (some : 1 ≤ N) (ex : v .ex ≡ e) (whole : v .hid ≡ K .N) (S : Shown K v leaves work) where
+module _ {q m N e : ℕ} {leaves work : List ℕ} (K : Key) (v : View) (sized : Sized q m N K) (some : 1 ≤ N) (ex : v .ex ≡ e) (whole : v .hid ≡ K .N) (S : Carried K v leaves work) where
   last : suc (K .N - 1) ≡ K .N
   last = omega (arith, sized .parties)
 
@@ -64,17 +64,17 @@ module _ {q m N e : ℕ} {leaves work : List ℕ} (K : Key) (v : View) (sized : 
         ss = here (λ x y z. Holds x y z (2 * x) work (s K v)) (S .ss);
       }
 
-pub omega-of : {q m N D e : ℕ} {master secret leaves work r : List ℕ} → 1 ≤ N → Dealt q m N D master secret leaves work
+pub omega-of : {q m N D e : ℕ} {master secret leaves work r : List ℕ} → 1 ≤ N → Masked q m N D master secret leaves work
     → ((K : Key) (v : View) → ForΩ m N e leaves work K v → r ≡ sha256 (Ωin K v)) → OmegaOf q m N D e master secret r
 unfolding dealt
 omega-of {e} {master} {secret} some so f =
-    record { is = λ K sized deep. f K (dealt K e master (λ k. getD secret k 0)) (for-omega K (dealt K e master (λ k. getD secret k 0)) sized some refl refl (so .shown K e sized deep)) }
+    record { is = λ K sized deep. f K (dealt K e master (λ k. getD secret k 0)) (for-omega K (dealt K e master (λ k. getD secret k 0)) sized some refl refl (so .carried K e sized deep)) }
 
-pub pi-of : {q m N D e : ℕ} {master secret κ leaves work r : List ℕ} (given : List ℕ) → 1 ≤ N → Dealt q m N D master secret leaves work
+pub pi-of : {q m N D e : ℕ} {master secret κ leaves work r : List ℕ} (given : List ℕ) → 1 ≤ N → Masked q m N D master secret leaves work
     → ((K : Key) (v : View) → ForΠ q m N N e given work K v → r ≡ sha256 (Πin K v κ)) → PiOf q m N D e master secret κ r
 unfolding dealt
 pi-of {e} {master} {secret} given some so f =
-    record { is = λ K sized deep. f K (dealt K e master (λ k. getD secret k 0)) (for-pi K (dealt K e master (λ k. getD secret k 0)) sized some refl refl (so .shown K e sized deep) given) }
+    record { is = λ K sized deep. f K (dealt K e master (λ k. getD secret k 0)) (for-pi K (dealt K e master (λ k. getD secret k 0)) sized some refl refl (so .carried K e sized deep) given) }
 
 -- Ω and Π go to their place
 pub kept-none : {q m N D x at : ℕ} {E seeds secret κ o p : List ℕ} → opened E x ≡ true → KeptPuts q m N D x at at E seeds secret κ o o p p

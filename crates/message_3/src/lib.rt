@@ -14,7 +14,6 @@ ghost use Rattle.prover.specs.Answers.{answerOf};
 ghost use Rattle.prover.specs.Parts.{Puts, Inputs};
 ghost use Rattle.message_3.specs.Parts.{OmegaOf, PiOf, KeptPuts, KeptAll, KeptPart, Rest};
 use execution::commit;
-use execution::prepare;
 use forms::is_opened;
 use prover::Answer;
 use prover::checks;
@@ -85,7 +84,7 @@ fn omega_and_pi(
     ensures { λ _. ⌜ length (now (work .exit)) ≡ length (now (work .entry)) ⌝ }
     ensures { λ _. ⌜ length (now (out .exit)) ≡ 32 ⌝ }
 {
-    prepare::deal(q, m, parties, depth, master, secret, leaves, work);
+    masks::deal_masks(q, m, parties, depth, master, secret, leaves, work);
     let omega = parties::omega_of(m, parties, execution, leaves, work);
     streams::copy(&omega, out);
     let mut sums = [0u32; 128];

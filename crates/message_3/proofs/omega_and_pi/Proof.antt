@@ -8,13 +8,13 @@ use Rattle.message_3.proofs.omega_and_pi.Statement.{statement}
 use Rattle.message_3.proofs.omega_and_pi.Tie as tie
 use Rattle.message_3.proofs.omega_and_pi.Reads as reads
 use Rattle.message_3.proofs.omega_and_pi.Lts as lts
-use Rattle.execution.proofs.prepare.deal.Reads as deal-reads
+use Rattle.masks.proofs.deal_masks.Reads as deal-masks-reads
 use Rattle.streams.proofs.copy.Reads as copy-reads
 use Rattle.views.proofs.answers.pi_of.Reads as pi-of-reads
 use Rattle.views.proofs.parties.omega_of.Reads as omega-of-reads
 
-deal-requires : tie.Need-deal-requires
-deal-requires c κs =
+deal-masks-requires : tie.Need-deal-masks-requires
+deal-masks-requires c κs =
     let p = c .before .before .before .before .before .before .before .before .pre in
     (p .0, (p .1 .0, (p .1 .1 .1 .0, (p .1 .1 .1 .1 .0, (p .1 .1 .1 .1 .1 .1 .0, p .1 .1 .1 .1 .1 .1 .1 .0)))))
 
@@ -36,7 +36,7 @@ slice-aggregate-pi-of-2 c = search needs
 pi-of-requires : tie.Need-pi-of-requires
 pi-of-requires c κs =
     let p = c .before .before .before .before .before .before .before .before .before .before .before .before .before .before .before .before .before .before .before .before .before .before .before .before .pre in
-    let d = c .before .before .before .before .before .before .before .before .before .before .before .before .before .before .before .deal .ensures in
+    let d = c .before .before .before .before .before .before .before .before .before .before .before .before .before .before .before .deal-masks .ensures in
     (p .0, (d .1 .0, (p .1 .1 .0, (λ h. absurd (omega arith), (p .1 .1 .1 .1 .1 .0, (omega (arith, d .1 .1 .1, p .1 .1 .1 .1 .1 .1 .1 .0), p .0 .m-most))))))
 
 same-length : tie.Need-same-length
@@ -51,7 +51,7 @@ same-length-3 c = search needs
 returns : tie.Need-returns
 returns c =
     let p = c .before .before .before .before .before .before .before .before .before .before .before .before .before .before .before .before .before .before .before .before .before .before .before .before .before .before .pre in
-    let d = c .before .before .before .before .before .before .before .before .before .before .before .before .before .before .before .before .before .deal .ensures in
+    let d = c .before .before .before .before .before .before .before .before .before .before .before .before .before .before .before .before .before .deal-masks .ensures in
     let some = p .0 .N-least in
     (omega-of (omega (arith, some)) (d .0) (λ K v f. c .before .before .before .before .before .before .before .copy .ensures ∙ c .before .before .before .before .before .before .before .before .before .before .omega-of .ensures K v f), (pi-of _ (omega (arith, some)) (d .0) (c .before .pi-of .ensures .0), (search needs, (search needs, ap length (c .before .before .before .before .before .before .before .copy .ensures) ∙ omega (arith, slice-aggregate-copy (c .before .before .before .before .before .before .before .before .before))))))
 
@@ -59,7 +59,7 @@ pub omega-and-pi-spec : {M : Type 1} → statement M
 omega-and-pi-spec =
     tie.close
     (tie.spec
-    deal-requires
+    deal-masks-requires
     omega-of-requires
     slice-aggregate-copy
     copy-requires
