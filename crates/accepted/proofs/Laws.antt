@@ -2,11 +2,11 @@
 -- Assumes nothing.
 use Prim.Native.Nat.{ℕ, zero, suc}
 use mathlib.Core.Path.{_≡_, refl, sym, _∙_, ap}
-use mathlib.Core.Bool.{Bool, true, false, not}
-use mathlib.Core.List.{List, [], _∷_, _++_}
+use mathlib.Core.Bool.{Bool, true, false}
+use mathlib.Core.List.{List, [], _++_}
 use native.Mathlib.Omega.{arith}
 use Rattle.lists.specs.Index.{cat, pick, same}
-use Rattle.lists.specs.Check.{Check, _⇒_, Verdict, accepted, refused, first}
+use Rattle.lists.specs.Check.{Check, Verdict, accepted, refused, first}
 use Rattle.protocol.specs.Key.{Key}
 use Rattle.protocol.specs.Prover.{opened}
 use Rattle.protocol.specs.Transcript.{partsOf}

@@ -5,11 +5,9 @@ use mathlib.Core.Path.{_≡_, refl, sym, _∙_, ap}
 use mathlib.Core.List.{List, [], _∷_, _++_}
 use native.Mathlib.Omega.{arith}
 use lib.ListN.{length, set, drop}
-use Rattle.prover.specs.declared.Answer.{Answer}
-use Rattle.prover.specs.declared.Answer.the-variants.{Refused as No}
 use Rattle.reading.specs.declared.Reading.{Reading}
-use Rattle.reading.specs.declared.Reading.the-variants.{Refused, Collision, Secret, Square, Errors}
-use Rattle.answer.specs.Rows.{findingOf, word, row, rowAfter}
+use Rattle.reading.specs.declared.Reading.the-variants.{Collision, Secret, Square, Errors}
+use Rattle.answer.specs.Rows.{word, row, rowAfter}
 
 pub eight-stored : (l : List ℕ) (a b c d e f g h : ℕ) → length l ≡ 8
     → set (set (set (set (set (set (set (set l 0 a) 1 b) 2 c) 3 d) 4 e) 5 f) 6 g) 7 h ≡ a ∷ b ∷ c ∷ d ∷ e ∷ f ∷ g ∷ h ∷ []
@@ -23,9 +21,6 @@ eight-stored (x1 ∷ x2 ∷ x3 ∷ x4 ∷ x5 ∷ []) a b c d e f g h z = absurd 
 eight-stored (x1 ∷ x2 ∷ x3 ∷ x4 ∷ x5 ∷ x6 ∷ []) a b c d e f g h z = absurd (omega arith)
 eight-stored (x1 ∷ x2 ∷ x3 ∷ x4 ∷ x5 ∷ x6 ∷ x7 ∷ []) a b c d e f g h z = absurd (omega arith)
 eight-stored (x1 ∷ x2 ∷ x3 ∷ x4 ∷ x5 ∷ x6 ∷ x7 ∷ x8 ∷ x9 ∷ l) a b c d e f g h z = absurd (omega arith)
-
-pub finding-refused : {r : Reading} (n : ℕ) → r ≡ Refused n → No n ≡ findingOf r
-finding-refused n e = sym (ap findingOf e)
 
 -- the row of a finding, from the words that were computed
 module _ {r : Reading} (before : List ℕ) {ys : List ℕ} where

@@ -1,20 +1,10 @@
--- The pair reader's answer for C: 1 to 4 for the finding, or the refusal's number; and eight 32-bit numbers: kind, e, i, length, k, b,
--- d and 0, with 0 where the finding has none.
+-- The pair reader's answer for C as eight 32-bit numbers: kind, e, i, length, k, b, d and 0, with 0 where the finding has none.
 -- Assumes nothing.
 use Prim.Native.Nat.{ℕ, _%_}
 use mathlib.Core.List.{List, [], _∷_, _++_}
 use lib.ListN.{drop}
-use Rattle.prover.specs.declared.Answer.{Answer}
-use Rattle.prover.specs.declared.Answer.the-variants.{Length, Refused as No}
 use Rattle.reading.specs.declared.Reading.{Reading}
 use Rattle.reading.specs.declared.Reading.the-variants.{Refused, Collision, Secret, Square, Errors}
-
-abbrev pub findingOf : Reading → Answer
-findingOf (Refused n) = No n
-findingOf (Collision kind e i n) = Length 1
-findingOf Secret = Length 2
-findingOf (Square e k b d) = Length 3
-findingOf (Errors e) = Length 4
 
 -- a number as 32 bits hold it
 abbrev pub word : ℕ → ℕ

@@ -1,24 +1,12 @@
-// The pair reader's answer as numbers for C.
+// The calls' answers as numbers for C: one number for each, and the row of eight for a finding.
+
+pub mod code;
 
 ghost use mathlib.Core.Path.{_≡_};
 ghost use Prim.Native.Nat.{_%_, _≤_};
 ghost use lib.ListN.{length};
-ghost use Rattle.answer.specs.Rows.{findingOf, row, rowAfter};
-use prover::Answer;
+ghost use Rattle.answer.specs.Rows.{row, rowAfter};
 use reading::Reading;
-
-// 1 to 4 for the finding, or the refusal's number.
-pub fn finding_of(r: Reading) -> Answer
-    ensures { λ a. ⌜ a ≡ findingOf r ⌝ }
-{
-    match r {
-        Reading::Refused(n) => Answer::Refused(n),
-        Reading::Collision(_, _, _, _) => Answer::Length(1),
-        Reading::Secret => Answer::Length(2),
-        Reading::Square(_, _, _, _) => Answer::Length(3),
-        Reading::Errors(_) => Answer::Length(4),
-    }
-}
 
 // A number as 32 bits hold it.
 fn word(x: usize) -> u32

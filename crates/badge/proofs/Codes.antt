@@ -1,13 +1,9 @@
--- The answers of the prover's calls as numbers.
+-- The lengths of the prover's messages are small.
 -- Assumes nothing.
-use Prim.Native.Nat.{ℕ, zero, suc, _^_, _<_, _≤_}
+use Prim.Native.Nat.{ℕ, _≤_}
 use mathlib.Core.List.{List}
-use mathlib.Core.Path.{_≡_, refl, sym, _∙_, ap, subst}
+use mathlib.Core.Path.{_≡_, refl, sym, subst}
 use native.Mathlib.Omega.{arith}
-use lib.IntN.{ℤ, pos, negsuc, negℤ, _-ℤ_, +ℤ-idl}
-use mir.Syntax.{w64}
-use mir.Val.{SFits, toZ, ofZ}
-use mir.ValLaws.{toZ-pos, toZ-ofZ}
 use lib.ListN.{length}
 use Rattle.lists.specs.Check.{Verdict, accepted, refused}
 use Rattle.lists.specs.TestLaws.{clean}
@@ -18,50 +14,8 @@ use Rattle.protocol.proofs.Sizes.{message1-length, message3-length, message5-le
 use Rattle.prover.specs.Answers.{answerOf}
 use Rattle.prover.proofs.Laws.{passed3, inputs-of3, passed7, inputs-of7}
 use Rattle.prover.specs.declared.Answer.{Answer}
-use Rattle.prover.specs.declared.Answer.the-variants.{Length, Refused}
-use Rattle.badge.specs.Code.{codeOf, lengthOf}
+use Rattle.answer.specs.Codes.{lengthOf}
 
--- ---- signed numbers
-pub length-is : (n : ℕ) → n ≤ 100000 → toZ w64 n ≡ pos n
-length-is n h = toZ-pos w64 n (omega arith)
-
-minus-small : (n : ℕ) → n < 2 ^ 32 → SFits w64 (negℤ (pos n))
-minus-small zero h = record { sfits = omega arith }
-minus-small (suc n) h = record { sfits = omega arith }
-
-pub minus-fits : (n : ℕ) → n < 2 ^ 32 → SFits w64 (toZ w64 0 -ℤ toZ w64 n)
-minus-fits n h =
-    subst (λ (z : ℤ). SFits w64 (pos 0 -ℤ z)) (sym (toZ-pos w64 n (omega arith)))
-    (subst (λ (z : ℤ). SFits w64 z) (sym (+ℤ-idl (negℤ (pos n)))) (minus-small n h))
-
-minus-is : (n : ℕ) → n < 2 ^ 32 → toZ w64 (ofZ w64 (toZ w64 0 -ℤ toZ w64 n)) ≡ negℤ (pos n)
-minus-is n h =
-    toZ-ofZ w64 (toZ w64 0 -ℤ toZ w64 n) (minus-fits n h)
-    ∙ (ap (λ (z : ℤ). pos 0 -ℤ z) (toZ-pos w64 n (omega arith)) ∙ +ℤ-idl (negℤ (pos n)))
-
-pub minus : (n : ℕ) → n < 2 ^ 32
-    → (toZ w64 (ofZ w64 (toZ w64 0 -ℤ toZ w64 n)) ≡ negℤ (pos n)) × SFits w64 (toZ w64 (ofZ w64 (toZ w64 0 -ℤ toZ w64 n)))
-minus n h = (minus-is n h, subst (λ (z : ℤ). SFits w64 z) (sym (minus-is n h)) (minus-small n h))
-
--- the code of an answer
-pub length-small : (a : Answer) (n : ℕ) → a ≡ Length n → lengthOf a ≤ 100000 → n ≤ 100000
-length-small a n e h = subst (λ (x : Answer). lengthOf x ≤ 100000) e h
-
-pub code-length : (a : Answer) (n : ℕ) (r : ℤ) → a ≡ Length n → n ≤ 100000 → r ≡ pos n
-    → (toZ w64 (ofZ w64 r) ≡ codeOf a) × SFits w64 (toZ w64 (ofZ w64 r))
-code-length a n r e h is =
-    let back : toZ w64 (ofZ w64 r) ≡ pos n = ap (λ (z : ℤ). toZ w64 (ofZ w64 z)) is ∙ length-is n h in
-    (back ∙ sym (ap codeOf e), subst (λ (z : ℤ). SFits w64 z) (sym back) (record { sfits = omega arith }))
-
-pub code-refused : (a : Answer) (n : ℕ) (r : ℤ) → a ≡ Refused n → r ≡ negℤ (pos n) → SFits w64 r
-    → (toZ w64 (ofZ w64 r) ≡ codeOf a) × SFits w64 (toZ w64 (ofZ w64 r))
-code-refused a n r e is h =
-    (toZ-ofZ w64 r h ∙ (is ∙ sym (ap codeOf e)), subst (λ (z : ℤ). SFits w64 z) (sym (toZ-ofZ w64 r h)) h)
-
-pub code-is : {a b : Answer} {r : ℤ} → (r ≡ codeOf a) × SFits w64 r → a ≡ b → toZ w64 (ofZ w64 r) ≡ codeOf b
-code-is {r = r} h e = toZ-ofZ w64 r (h .1) ∙ (h .0 ∙ ap codeOf e)
-
--- ---- the messages' lengths
 bounded : (v : Verdict) (message : List ℕ) → (v ≡ accepted → length message ≤ 100000) → lengthOf (answerOf v message) ≤ 100000
 bounded accepted message h = h refl
 bounded (refused n) message h = omega arith

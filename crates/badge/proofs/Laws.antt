@@ -1,6 +1,6 @@
 -- Lists of the greatest lengths are always enough.
 -- Assumes nothing.
-use Prim.Native.Nat.{ℕ, _+_, _*_, _<_, _≤_}
+use Prim.Native.Nat.{ℕ, _*_}
 use mathlib.Core.Path.{_≡_, refl, sym, _∙_, ap}
 use mathlib.Core.Bool.{Bool, true, false, not}
 use mathlib.Core.List.{List, [], _∷_, _++_}
@@ -8,13 +8,12 @@ use native.Mathlib.Nat.{mul-le-mul}
 use native.Mathlib.Omega.{arith}
 use borrow.Author.Tests.{le-leb}
 use lib.Dec.{leb}
-use lib.ListN.{length}
 use Rattle.lists.specs.Check.{Check, _⇒_, Verdict, accepted, refused, first}
 use Rattle.lists.specs.TestLaws.{orElse, not-of-true, first-miss, first-append, each-holds}
 use Rattle.protocol.specs.Key.{Key, entries, keyOf, keyChecks}
 use Rattle.protocol.specs.Judge.{runChecks, judge, judgeLent, lentEnough}
 use Rattle.key.specs.declared.Numbers.{Numbers}
-use Rattle.key.specs.Numbers.{Of, Read}
+use Rattle.key.specs.Numbers.{Read}
 use Rattle.key.specs.KeyLaws.{read-of, entries-most}
 
 numbers : Key → Numbers

@@ -7,8 +7,8 @@ ghost use Rattle.protocol.specs.Key.{keyOf};
 ghost use Rattle.protocol.specs.Judge.{judgeLent};
 ghost use Rattle.protocol.specs.Prover.{message1, message3, message5, message7, verdict1, verdict3, verdict5, verdict7, output};
 ghost use Rattle.prover.specs.Answers.{answerOf};
-ghost use Rattle.badge.specs.Code.{codeOf};
-use crate::code::code;
+ghost use Rattle.answer.specs.Codes.{codeOf};
+use answer::code::code;
 
 // The first number of document 01's table that applies to a key and a transcript, or 0: accepted.
 #[no_mangle]

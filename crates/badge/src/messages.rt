@@ -5,8 +5,8 @@ ghost use lib.ListN.{length};
 ghost use Rattle.protocol.specs.Key.{keyOf};
 ghost use Rattle.protocol.specs.Prover.{message1, message3, message5, message7, verdict1, verdict3, verdict5, verdict7, output};
 ghost use Rattle.prover.specs.Answers.{answerOf};
-ghost use Rattle.badge.specs.Code.{codeOf};
-use crate::code::code;
+ghost use Rattle.answer.specs.Codes.{codeOf};
+use answer::code::code;
 
 // Message 1 into the output from a place on.
 #[no_mangle]

@@ -10,12 +10,11 @@ ghost use Rattle.lists.specs.Check.{_⇒_, first};
 ghost use Rattle.refusals.specs.Number.{numberOf};
 ghost use Rattle.protocol.specs.Key.{keyOf, keyChecks};
 ghost use Rattle.reading.specs.Answers.{answerOf, hash1Of, hash2Of, bitsOf, errorsOf};
-ghost use Rattle.answer.specs.Rows.{findingOf, rowAfter};
+ghost use Rattle.answer.specs.Codes.{findingCode};
+ghost use Rattle.answer.specs.Rows.{rowAfter};
 ghost use Rattle.pair.specs.Lent.{lengths};
-ghost use Rattle.badge.specs.Code.{codeOf};
 ghost use Rattle.badge.specs.PairCall.{pairCall};
-use crate::code::code;
-use prover::Answer;
+use answer::code;
 use refusals::ROOM;
 
 // The number for a list for the answer that is too short.
@@ -42,7 +41,7 @@ fn read(
     entries: &mut [u32],
     work: &mut [u32],
 ) -> i64
-    ensures { λ r. ⌜ (r ≡ codeOf (findingOf (answerOf (pairCall (length (now (answer .entry))) (now (key .entry)) (lengths (length (now (hash1 .entry))) (length (now (hash2 .entry))) (length (now (secret .entry))) (length (now (uv .entry))) (length (now (entries .entry))) (length (now (work .entry)))) (now (run1 .entry)) (now (run2 .entry)))))) × SFits w64 r ⌝ }
+    ensures { λ r. ⌜ (r ≡ findingCode (answerOf (pairCall (length (now (answer .entry))) (now (key .entry)) (lengths (length (now (hash1 .entry))) (length (now (hash2 .entry))) (length (now (secret .entry))) (length (now (uv .entry))) (length (now (entries .entry))) (length (now (work .entry)))) (now (run1 .entry)) (now (run2 .entry))))) × SFits w64 r ⌝ }
     ensures { λ _. ⌜ now (hash1 .exit) ≡ hash1Of (pairCall (length (now (answer .entry))) (now (key .entry)) (lengths (length (now (hash1 .entry))) (length (now (hash2 .entry))) (length (now (secret .entry))) (length (now (uv .entry))) (length (now (entries .entry))) (length (now (work .entry)))) (now (run1 .entry)) (now (run2 .entry))) (now (hash1 .entry)) ⌝ }
     ensures { λ _. ⌜ now (hash2 .exit) ≡ hash2Of (pairCall (length (now (answer .entry))) (now (key .entry)) (lengths (length (now (hash1 .entry))) (length (now (hash2 .entry))) (length (now (secret .entry))) (length (now (uv .entry))) (length (now (entries .entry))) (length (now (work .entry)))) (now (run1 .entry)) (now (run2 .entry))) (now (hash2 .entry)) ⌝ }
     ensures { λ _. ⌜ now (secret .exit) ≡ bitsOf (pairCall (length (now (answer .entry))) (now (key .entry)) (lengths (length (now (hash1 .entry))) (length (now (hash2 .entry))) (length (now (secret .entry))) (length (now (uv .entry))) (length (now (entries .entry))) (length (now (work .entry)))) (now (run1 .entry)) (now (run2 .entry))) (now (secret .entry)) ⌝ }
@@ -50,11 +49,11 @@ fn read(
     ensures { λ _. ⌜ now (answer .exit) ≡ rowAfter (answerOf (pairCall (length (now (answer .entry))) (now (key .entry)) (lengths (length (now (hash1 .entry))) (length (now (hash2 .entry))) (length (now (secret .entry))) (length (now (uv .entry))) (length (now (entries .entry))) (length (now (work .entry)))) (now (run1 .entry)) (now (run2 .entry)))) (now (answer .entry)) ⌝ }
 {
     if answer.len() < 8 {
-        return code(Answer::Refused(short_answer(key)));
+        return code::refusal_code(short_answer(key));
     }
     let r = pair::reader::pair(key, run1, run2, hash1, hash2, secret, uv, entries, work);
     answer::write_row(r, answer);
-    code(answer::finding_of(r))
+    code::finding_code(r)
 }
 
 // What must lie behind two transcripts, over lent lists.
@@ -71,7 +70,7 @@ pub extern "C" fn badge_pair_lent(
     entries: &mut [u32],
     work: &mut [u32],
 ) -> i64
-    ensures { λ r. ⌜ r ≡ codeOf (findingOf (answerOf (pairCall (length (now (answer .entry))) (now (key .entry)) (lengths (length (now (hash1 .entry))) (length (now (hash2 .entry))) (length (now (secret .entry))) (length (now (uv .entry))) (length (now (entries .entry))) (length (now (work .entry)))) (now (run1 .entry)) (now (run2 .entry))))) ⌝ }
+    ensures { λ r. ⌜ r ≡ findingCode (answerOf (pairCall (length (now (answer .entry))) (now (key .entry)) (lengths (length (now (hash1 .entry))) (length (now (hash2 .entry))) (length (now (secret .entry))) (length (now (uv .entry))) (length (now (entries .entry))) (length (now (work .entry)))) (now (run1 .entry)) (now (run2 .entry)))) ⌝ }
     ensures { λ _. ⌜ now (hash1 .exit) ≡ hash1Of (pairCall (length (now (answer .entry))) (now (key .entry)) (lengths (length (now (hash1 .entry))) (length (now (hash2 .entry))) (length (now (secret .entry))) (length (now (uv .entry))) (length (now (entries .entry))) (length (now (work .entry)))) (now (run1 .entry)) (now (run2 .entry))) (now (hash1 .entry)) ⌝ }
     ensures { λ _. ⌜ now (hash2 .exit) ≡ hash2Of (pairCall (length (now (answer .entry))) (now (key .entry)) (lengths (length (now (hash1 .entry))) (length (now (hash2 .entry))) (length (now (secret .entry))) (length (now (uv .entry))) (length (now (entries .entry))) (length (now (work .entry)))) (now (run1 .entry)) (now (run2 .entry))) (now (hash2 .entry)) ⌝ }
     ensures { λ _. ⌜ now (secret .exit) ≡ bitsOf (pairCall (length (now (answer .entry))) (now (key .entry)) (lengths (length (now (hash1 .entry))) (length (now (hash2 .entry))) (length (now (secret .entry))) (length (now (uv .entry))) (length (now (entries .entry))) (length (now (work .entry)))) (now (run1 .entry)) (now (run2 .entry))) (now (secret .entry)) ⌝ }
@@ -104,7 +103,7 @@ pub extern "C" fn badge_pair(
     uv: &mut [u32],
     answer: &mut [u32],
 ) -> i64
-    ensures { λ r. ⌜ r ≡ codeOf (findingOf (answerOf (pairCall (length (now (answer .entry))) (now (key .entry)) (lengths (length (now (hash1 .entry))) (length (now (hash2 .entry))) (length (now (secret .entry))) (length (now (uv .entry))) 4128 16384) (now (run1 .entry)) (now (run2 .entry))))) ⌝ }
+    ensures { λ r. ⌜ r ≡ findingCode (answerOf (pairCall (length (now (answer .entry))) (now (key .entry)) (lengths (length (now (hash1 .entry))) (length (now (hash2 .entry))) (length (now (secret .entry))) (length (now (uv .entry))) 4128 16384) (now (run1 .entry)) (now (run2 .entry)))) ⌝ }
     ensures { λ _. ⌜ now (hash1 .exit) ≡ hash1Of (pairCall (length (now (answer .entry))) (now (key .entry)) (lengths (length (now (hash1 .entry))) (length (now (hash2 .entry))) (length (now (secret .entry))) (length (now (uv .entry))) 4128 16384) (now (run1 .entry)) (now (run2 .entry))) (now (hash1 .entry)) ⌝ }
     ensures { λ _. ⌜ now (hash2 .exit) ≡ hash2Of (pairCall (length (now (answer .entry))) (now (key .entry)) (lengths (length (now (hash1 .entry))) (length (now (hash2 .entry))) (length (now (secret .entry))) (length (now (uv .entry))) 4128 16384) (now (run1 .entry)) (now (run2 .entry))) (now (hash2 .entry)) ⌝ }
     ensures { λ _. ⌜ now (secret .exit) ≡ bitsOf (pairCall (length (now (answer .entry))) (now (key .entry)) (lengths (length (now (hash1 .entry))) (length (now (hash2 .entry))) (length (now (secret .entry))) (length (now (uv .entry))) 4128 16384) (now (run1 .entry)) (now (run2 .entry))) (now (secret .entry)) ⌝ }

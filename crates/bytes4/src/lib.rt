@@ -3,7 +3,7 @@
 ghost use mathlib.Core.Path.{_≡_};
 ghost use Prim.Native.Nat.{_+_, _*_, _≤_, _<_};
 ghost use lib.ListN.{length, getD};
-ghost use Rattle.lists.specs.Bytes.{le4, num};
+ghost use Rattle.lists.specs.Bytes.{le4, words, num};
 ghost use Rattle.lists.specs.Index.{same};
 ghost use Rattle.bytes4.specs.Byte.{Byte};
 
@@ -50,4 +50,18 @@ pub fn put32(x: u32, out: &mut [u8])
     out[1] = (x / 256 % 256) as u8;
     out[2] = (x / 65536 % 256) as u8;
     out[3] = (x / 16777216 % 256) as u8;
+}
+
+// Each number of a list in four bytes.
+pub fn put_numbers(xs: &[u32], out: &mut [u8])
+    requires { ⌜ length (now out) ≡ 4 * length (now xs) ⌝ }
+    ensures { λ _. ⌜ now (out .exit) ≡ words (now (xs .entry)) ⌝ }
+{
+    let mut k = 0;
+    while k < xs.len() {
+        let at = 4 * k;
+        let end = at + 4;
+        put32(xs[k], &mut out[at..end]);
+        k += 1;
+    }
 }

@@ -1,7 +1,7 @@
 -- What lists that hold an execution give whoever hashes it, in the sizes of the code.
 -- Assumes nothing.
 use Prim.Native.Nat.{ℕ, suc, _+_, _*_, _-_, _<_, _≤_}
-use mathlib.Core.Path.{_≡_, refl, sym, _∙_, ap, ap₂, subst}
+use mathlib.Core.Path.{_≡_, sym, _∙_, ap, ap₂, subst}
 use mathlib.Core.Bool.{true}
 use mathlib.Core.List.{List}
 use native.Mathlib.Omega.{arith}
@@ -12,11 +12,11 @@ use Rattle.lists.specs.Index.{pick, part, every}
 use Rattle.lists.specs.Bytes.{num}
 use Rattle.lists.specs.TestLaws.{every-at}
 use Rattle.protocol.specs.Key.{Key, depth}
-use Rattle.protocol.specs.Shares.{View, share, b, d, s, dealt}
+use Rattle.protocol.specs.Shares.{View, share, d, s}
 use Rattle.protocol.specs.Transcript.{Parts}
 use Rattle.protocol.specs.Judge.{hidden, givenCount, replyAt, given, keptView}
 use Rattle.execution.specs.Shown.{Sized, Holds, Shown, placeOf}
-use Rattle.execution.specs.Prepared.{Opened, Given, lastCount, givenOf}
+use Rattle.execution.specs.Prepared.{Given, lastCount, givenOf}
 
 -- what holds of a key's own numbers holds of those that equal them
 pub from-key : {q m N : ℕ} {K : Key} → Sized q m N K → (P : ℕ → ℕ → ℕ → Type 0) → P (K .q) (K .m) (K .N) → P q m N
@@ -26,9 +26,6 @@ from-key {q} {m} {N} {K} sized P h =
 
 -- ---- any execution
 module _ {q m N hid : ℕ} {K : Key} {v : View} {leaves work : List ℕ} (sized : Sized q m N K) (hides : v .hid ≡ hid) (so : Shown K v leaves work) where
-  pub shown-bs : Holds m N hid 0 work (b K v)
-  shown-bs = subst (λ (x : ℕ). Holds m N x 0 work (b K v)) hides (from-key sized (λ q m N. Holds m N (v .hid) 0 work (b K v)) (so .bs))
-
   pub shown-ds : Holds m N hid m work (d K v)
   shown-ds = subst (λ (x : ℕ). Holds m N x m work (d K v)) hides (from-key sized (λ q m N. Holds m N (v .hid) m work (d K v)) (so .ds))
 
@@ -61,29 +58,9 @@ module _ {q m N hid : ℕ} {K : Key} {v : View} {leaves work : List ℕ} (sized 
         so .seeds .at (N - 1) (omega (arith, sized .parties)) (λ z. last-open (z ∙ hides))
 
 -- ---- an execution that was dealt
-pub dealt-ex : (K : Key) (e : ℕ) (master : List ℕ) (z : ℕ → ℕ) → dealt K e master z .ex ≡ e
-unfolding dealt
-dealt-ex K e master z = refl
-
-pub dealt-hid : {q m N : ℕ} (K : Key) (e : ℕ) (master : List ℕ) (z : ℕ → ℕ) → Sized q m N K → dealt K e master z .hid ≡ N
-unfolding dealt
-dealt-hid K e master z sized = sized .parties
-
-pub opened-dN : {q m N D : ℕ} {master leaves work : List ℕ} → Opened q m N D master leaves work
-    → (K : Key) (e : ℕ) (z : ℕ → ℕ) → Sized q m N K → depth K ≡ D → (k : ℕ) → k < m → dealt K e master z .dN k ≡ getD work (placeOf m (N - 1) (m + k)) 0
-opened-dN {q} {m} {N} {D} {master} {leaves} {work} so K e z sized deep =
-    from-key sized (λ q m N. (k : ℕ) → k < m → dealt K e master z .dN k ≡ getD work (placeOf m (N - 1) (m + k)) 0) (so .dN K e z sized deep)
 
 -- ---- a kept execution
 module _ (K : Key) (P : Parts) (e : ℕ) where
-  pub kept-ex : keptView K P e .ex ≡ e
-  unfolding keptView
-  kept-ex = refl
-
-  pub kept-hid : keptView K P e .hid ≡ hidden K P e
-  unfolding keptView
-  kept-hid = refl
-
   -- how many numbers its reply holds
   pub given-count : {q m N hid : ℕ} → Sized q m N K → hidden K P e ≡ hid → givenCount K P e ≡ m + 1 + lastCount m N hid
   unfolding givenCount

@@ -73,6 +73,16 @@ fn last_count(m: usize, parties: usize, hidden: usize) -> usize
     2 * m
 }
 
+// How many bytes a reply has.
+pub fn reply_length(m: usize, parties: usize, depth: usize, hidden: usize) -> usize
+    requires { ⌜ m ≤ 128 ⌝ }
+    requires { ⌜ depth ≤ 5 ⌝ }
+    requires { ⌜ hidden < parties ⌝ }
+    ensures { λ r. ⌜ r ≡ 16 * depth + 32 + 4 * (m + 1 + lastCount m parties hidden) ⌝ }
+{
+    16 * depth + 32 + 4 * (m + 1 + last_count(m, parties, hidden))
+}
+
 // `count` numbers of a list of bytes, from number `first` on, to the work list from place `from` on.
 fn put_numbers(given: &[u8], first: usize, count: usize, from: usize, work: &mut [u32])
     requires { ⌜ 4 * (first + count) ≤ length (now given) ⌝ }

@@ -45,7 +45,7 @@ fn alpha_bytes(
     ensures { λ r. ⌜ r ≡ sum parties (alphaAt q m hidden (now (given .entry)) (now (work .entry)) k) % q ⌝ }
 {
     let row = answers::alpha_row(q, m, parties, hidden, k, given, work);
-    inputs::put_numbers(&row[..parties], out);
+    bytes4::put_numbers(&row[..parties], out);
     numbers::reduced(answers::total(&row[..parties]), q)
 }
 

@@ -1,6 +1,6 @@
 -- Document 01, Pair reader: what a call answers and leaves in its lent lists, by what the definitions read.
 -- Assumes nothing.
-use Prim.Native.Nat.{ℕ, _≤_, _<_}
+use Prim.Native.Nat.{ℕ}
 use mathlib.Core.Path.{_≡_}
 use mathlib.Core.Bool.{false}
 use mathlib.Core.List.{List}

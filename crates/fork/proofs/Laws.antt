@@ -9,16 +9,14 @@ use lib.ListN.{length, getD, take, drop, length-drop}
 use lib.Seq.{take-add, drop-drop, length-take-le}
 use Rattle.lists.specs.Index.{pick, same, holds}
 use Rattle.lists.specs.TestLaws.{least-found, least-none}
-use Rattle.numbers.specs.Sum.{sum, sum-ext}
 use Rattle.protocol.specs.Key.{Key}
 use Rattle.protocol.specs.Prover.{opened, place, hiddenOf}
 use Rattle.protocol.specs.Transcript.{Parts, partAt, partsOf}
-use Rattle.protocol.specs.Judge.{hidden, replySize}
+use Rattle.protocol.specs.Judge.{hidden}
 use Rattle.protocol.specs.Pair.{execution, sameFront}
 use Rattle.key.specs.declared.Numbers.{Numbers}
 use Rattle.key.specs.Numbers.{Of, keyWith, of-with}
 use Rattle.transcript.specs.Layout.{startOf, start-first, start-next, start-within, part-is}
-use Rattle.transcript.specs.Replies.{partsWith, size-of}
 use Rattle.fork.specs.Fork.{Headed, differs}
 use Rattle.fork.proofs.Slices.{Starts, good, slice-is}
 
@@ -132,11 +130,6 @@ module _ (k : Numbers) (E h1 h2 : List ℕ) (K : Key) (P R : Parts) (of : Of k K
   unfolding execution
   execution-none before =
       of .M-is ∙ sym (least-none (K .M) _ (λ j l. test-is j ∙ before j (omega (arith, of .M-is))))
-
--- ---- the replies
-pub from-of : (k : Numbers) (E h : List ℕ) (e : ℕ) {at : ℕ} → at ≡ 16 + sum e (replySize (keyWith k []) (partsWith E h []))
-    → (K : Key) (P : Parts) → Of k K → P .p2 ≡ E → P .p6 ≡ h → at ≡ 16 + sum e (replySize K P)
-from-of k E h e is K P of a b = is ∙ ap (λ (s : ℕ). 16 + s) (sum-ext e (λ j l. size-of k K of P E h [] a b j))
 
 -- What the length of a reply depends on.
 pub reply-facts : (E h : List ℕ) (e at p : ℕ) → opened E e ≡ false → at ≡ place E e → p ≡ getD h at 0 → (P : Parts) → P .p2 ≡ E → P .p6 ≡ h

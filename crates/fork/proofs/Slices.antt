@@ -10,7 +10,7 @@ use Rattle.protocol.specs.Key.{Key}
 use Rattle.protocol.specs.Transcript.{partAt, sizes, goodHeader}
 use Rattle.key.specs.declared.Numbers.{Numbers}
 use Rattle.key.specs.Numbers.{Of, keyWith, of-with}
-use Rattle.transcript.specs.Layout.{startOf, start-first, start-next, start-within, part-is, last-is, part-long}
+use Rattle.transcript.specs.Layout.{startOf, start-first, start-next, start-within, part-is, part-long}
 use Rattle.fork.specs.Fork.{Headed}
 
 -- a is where part i begins, for every key of the numbers k
@@ -39,15 +39,6 @@ module _ (k : Numbers) (x : List ℕ) (h : Headed k x) where
 
     pub slice-long : length (take (b - a) (drop a x)) ≡ getD (sizes plain) i 0
     slice-long = ap (λ (l : List ℕ). length l) slice-is ∙ part-long plain x good i below
-
-  -- part 7
-  pub last-slice-is : {a : ℕ} → Starts k 6 a → take (length x - a) (drop a x) ≡ partAt x 6
-  last-slice-is {a} begins =
-      ap (λ (y : ℕ). take (length x - y) (drop y x)) (begins plain (of-with k [])) ∙ sym (last-is plain x good)
-
-  pub last-slice-in : {a : ℕ} → Starts k 6 a → a ≤ length x
-  last-slice-in {a} begins =
-      let e : a ≡ startOf plain 6 = begins plain (of-with k []) in omega (arith, start-within plain x good 6 (omega arith))
 
   -- parts 1 to 5 together; part 1 has 32 bytes
   pub front-in : {a : ℕ} → Starts k 5 a → (88 ≤ a) × (a ≤ length x)

@@ -8,9 +8,8 @@ use transcript::part_start;
 use transcript::reply_size;
 ghost use mathlib.Core.Path.{_≡_};
 ghost use mathlib.Core.Bool.{false};
-ghost use Prim.Native.Nat.{_+_, _*_, _≤_, _<_};
+ghost use Prim.Native.Nat.{_≤_, _<_};
 ghost use Rattle.lists.specs.Index.{same};
-ghost use Rattle.numbers.specs.Sum.{sum};
 ghost use Rattle.protocol.specs.Key.{Key};
 ghost use Rattle.protocol.specs.Prover.{opened, place, hiddenOf};
 ghost use Rattle.protocol.specs.Transcript.{Parts, partsOf};
@@ -97,27 +96,6 @@ pub fn execution_of(k: Numbers, p2: &[u8], h1: &[u8], h2: &[u8]) -> usize
         e += 1;
     }
     executions
-}
-
-// Where the reply of execution e begins in part 7.
-pub fn reply_from(k: Numbers, p2: &[u8], p6: &[u8], e: usize) -> usize
-    requires { ⌜ Limits k ⌝ }
-    requires { ⌜ e ≤ k .executions ⌝ }
-    ensures { λ r. ⌜ ((K : Key) (P : Parts) → Of k K → P .p2 ≡ now (p2 .entry) → P .p6 ≡ now (p6 .entry) → r ≡ 16 + sum e (replySize K P)) ⌝ }
-    ensures { λ r. ⌜ r ≤ 16 + 1652 * e ⌝ }
-{
-    let mut at = 16;
-    let mut kept = 0;
-    let mut j = 0;
-    while j < e {
-        let i = j;
-        j += 1;
-        if !is_opened(p2, i) {
-            at += reply_size(k, hidden_at(p6, kept));
-            kept += 1;
-        }
-    }
-    at
 }
 
 // How many bytes part 7 holds of kept execution e.

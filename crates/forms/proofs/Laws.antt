@@ -11,8 +11,7 @@ use lib.ListN.{length, getD}
 use borrow.Author.Tests.{eq-eqb, ne-eqb}
 use Rattle.lists.specs.Index.{every, member}
 use Rattle.lists.specs.Bytes.{num}
-use Rattle.lists.specs.TestLaws.{every-stops, member-entry, member-no, each-holds}
-use Rattle.lists.specs.ReadingExtra.{holds-fails}
+use Rattle.lists.specs.TestLaws.{every-stops, member-entry, member-no, each-holds, holds-fails}
 use Rattle.numbers.specs.Mod.{cong-refl}
 use Rattle.numbers.specs.Sum.{sum, loop-next}
 use Rattle.protocol.specs.Key.{Key, A, t, keptCount, keyOf}

@@ -1,69 +1,19 @@
--- Laws for lists of bytes that are written in order, and for the inputs of Γ, h(e) and Ω.
+-- Laws for the inputs of Γ, h(e) and Ω.
 -- Assumes nothing.
 use Prim.Native.Nat.{ℕ, suc, _+_, _*_, _-_, _<_, _≤_}
-use mathlib.Core.Path.{_≡_, refl, sym, _∙_, ap, ap₂}
-use mathlib.Core.List.{List, [], _++_, append-nil, append-assoc}
+use mathlib.Core.Path.{_≡_, refl, sym, _∙_, ap}
+use mathlib.Core.List.{List, [], _++_, append-assoc}
 use native.Mathlib.Omega.{arith}
 use borrow.Author.Tests.{eq-eqb, ne-eqb}
-use lib.ListN.{length, getD, take, drop, length-append, length-drop, drop-of-length-le}
-use lib.Seq.{drop-drop, take-at, drop-at, take-all}
-use Rattle.lists.specs.Index.{cat, part}
-use Rattle.lists.specs.Bytes.{le4, words, nums}
-use Rattle.lists.specs.CatLaws.{cat-more, cat-ext, words-nums, part-length}
+use lib.ListN.{length, take, drop}
+use Rattle.lists.specs.Index.{cat}
+use Rattle.lists.specs.Bytes.{words}
+use Rattle.lists.specs.CatLaws.{cat-more, cat-ext, part-length}
 use Rattle.streams.specs.Streams.{block}
 use Rattle.protocol.specs.Shares.{input}
 use Rattle.execution.proofs.Laws.{inside, small}
 use Rattle.views.specs.Seen.{Bounded}
-use Rattle.inputs.specs.Steps.{Built, gammaIn, otherIn, omegaIn}
-
--- ---- writing in order
-pub built-none : (f : ℕ → List ℕ) (l : List ℕ) → Built f 0 0 l l
-unfolding cat
-built-none f l = record { long = refl; is = refl }
-
--- one more item, of w bytes
-pub built-more : {f : ℕ → List ℕ} {x at : ℕ} {l o : List ℕ} (w : ℕ) (ys : List ℕ) → Built f x at l o → ys ≡ f x → length ys ≡ w
-    → Built f (x + 1) (at + w) l (take at o ++ (ys ++ drop (at + w - at) (drop at o)))
-built-more {f} {x} {at} {l} {o} w ys a e h =
-    let z : at + w - at ≡ w = omega arith in
-    let long : length (cat x f) ≡ at = sym (a .long) in
-    record {
-      long = rw (cat-more x f, length-append (cat x f) (f x), ← e, h, long);
-      is =
-          rw (cat-more x f, ← e, z, a .is, take-at (cat x f) (drop at l) at long, drop-at (cat x f) (drop at l) at long, drop-drop w at l)
-          (sym (append-assoc (cat x f) ys (drop (at + w) l)));
-    }
-
-pub built-all : {f : ℕ → List ℕ} {x n at : ℕ} {l o : List ℕ} → Built f x at l o → x ≡ n → length l ≤ at → o ≡ cat n f
-built-all {f} {x} {n} {at} {l} a e h = a .is ∙ rw (drop-of-length-le l {i = at} h, append-nil) (ap (λ k. cat k f) e)
-
--- the same, the place written another way
-pub built-at : {f : ℕ → List ℕ} {x at to : ℕ} {l o : List ℕ} → at ≡ to → Built f x at l o → Built f x to l o
-built-at e a = rw e at a
-
-pub words-cat : (xs : List ℕ) → cat (length xs) (λ i. le4 (getD xs i 0)) ≡ words xs
-unfolding nums
-words-cat xs = sym (words-nums xs)
-
--- ---- a list that is written in two parts
-pub two-parts : (out a b : List ℕ) (mid n : ℕ) → length a ≡ mid → length (drop mid out) ≤ n
-    → take mid (a ++ drop mid out) ++ (b ++ drop n (drop mid (a ++ drop mid out))) ≡ a ++ b
-two-parts out a b mid n h k =
-    rw (take-at a (drop mid out) mid h, drop-at a (drop mid out) mid h, drop-of-length-le (drop mid out) {i = n} k, append-nil) refl
-
-pub both-parts : (out a b : List ℕ) (mid : ℕ) → length a ≡ mid
-    → take mid (a ++ drop mid out) ++ (b ++ drop (length (a ++ drop mid out) - mid) (drop mid (a ++ drop mid out))) ≡ a ++ b
-both-parts out a b mid h = two-parts out a b mid (length (a ++ drop mid out) - mid) h (omega (arith, length-append a (drop mid out)))
-
-pub later-part : (out a : List ℕ) (mid : ℕ) → length a ≡ mid
-    → length (take (length (a ++ drop mid out) - mid) (drop mid (a ++ drop mid out))) ≡ length out - mid
-later-part out a mid h =
-    let n : length (drop mid out) ≤ length (a ++ drop mid out) - mid = omega (arith, length-append a (drop mid out)) in
-    rw (drop-at a (drop mid out) mid h, take-all (length (a ++ drop mid out) - mid) (drop mid out) n) (length-drop mid out)
-
-pub joined : {a' b' : List ℕ} (out a b : List ℕ) (mid : ℕ) → length a ≡ mid → a ≡ a' → b ≡ b'
-    → take mid (a ++ drop mid out) ++ (b ++ drop (length (a ++ drop mid out) - mid) (drop mid (a ++ drop mid out))) ≡ a' ++ b'
-joined out a b mid h e k = both-parts out a b mid h ∙ ap₂ (λ (x y : List ℕ). x ++ y) e k
+use Rattle.inputs.specs.Steps.{gammaIn, otherIn, omegaIn}
 
 -- ---- the inputs
 pub gamma-label : (e i : ℕ) (x d r : List ℕ) → x ++ (d ++ r) ≡ input 3 e i (x ++ d ++ r)

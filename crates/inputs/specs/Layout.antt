@@ -1,6 +1,6 @@
 -- Document 01, Pair reader: the hash inputs of one kept execution in a list of bytes: h(e), Γ(1) .. Γ(N), Ω, Π and Ψ.
 -- Assumes nothing.
-use Prim.Native.Nat.{ℕ, suc, _+_, _*_, _<_, _≤_}
+use Prim.Native.Nat.{ℕ, suc, _+_, _*_, _<_}
 use mathlib.Core.Path.{_≡_}
 use mathlib.Core.List.{List}
 use lib.Dec.{eqb}

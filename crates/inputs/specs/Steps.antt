@@ -1,11 +1,9 @@
--- Γ's and Ω's inputs by the lists that hold an execution, laid out as in execution/specs/Shown, and a list that is written in order.
+-- Γ's and Ω's inputs by the lists that hold an execution, laid out as in execution/specs/Shown.
 -- Assumes nothing.
 use Prim.Native.Nat.{ℕ, suc, _+_, _*_, _-_}
-use mathlib.Core.Path.{_≡_}
 use mathlib.Core.List.{List, [], _++_}
 use lib.Dec.{eqb}
-use lib.ListN.{length, drop}
-use Rattle.lists.specs.Index.{pick, part, cat}
+use Rattle.lists.specs.Index.{pick, part}
 use Rattle.lists.specs.Bytes.{words}
 use Rattle.streams.specs.Streams.{block}
 use Rattle.protocol.specs.Shares.{input}
@@ -24,8 +22,3 @@ otherIn e leaves i = input 3 (e + 1) (i + 1) (part leaves (16 * i) 16 ++ words [
 unfoldable pub omegaIn : ℕ → ℕ → ℕ → List ℕ → List ℕ → List ℕ
 omegaIn m N e leaves work =
     input 4 (e + 1) N (words (part work (3 * m * (N - 1) + 2 * m) m) ++ block (part leaves (16 * (N - 1)) 16) 1)
-
--- f 0 .. f (x - 1) stand in front
-pub record Built (f : ℕ → List ℕ) (x at : ℕ) (before after : List ℕ) : Type 0 where
-  pub long : at ≡ length (cat x f)
-  pub is : after ≡ cat x f ++ drop at before

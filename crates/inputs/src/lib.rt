@@ -12,20 +12,6 @@ ghost use Rattle.protocol.specs.Shares.{input};
 ghost use Rattle.views.specs.Seen.{Bounded, gammaAt};
 ghost use Rattle.inputs.specs.Steps.{gammaIn, otherIn, omegaIn};
 
-// Each number of a list in four bytes.
-pub fn put_numbers(xs: &[u32], out: &mut [u8])
-    requires { ⌜ length (now out) ≡ 4 * length (now xs) ⌝ }
-    ensures { λ _. ⌜ now (out .exit) ≡ words (now (xs .entry)) ⌝ }
-{
-    let mut i = 0;
-    while i < xs.len() {
-        let at = 4 * i;
-        let end = at + 4;
-        bytes4::put32(xs[i], &mut out[at..end]);
-        i += 1;
-    }
-}
-
 // Numbers, then block j of a seed.
 pub fn put_with_block(xs: &[u32], seed: &[u8], j: u64, out: &mut [u8])
     requires { ⌜ length (now seed) ≡ 16 ⌝ }
@@ -33,7 +19,7 @@ pub fn put_with_block(xs: &[u32], seed: &[u8], j: u64, out: &mut [u8])
     ensures { λ _. ⌜ now (out .exit) ≡ words (now (xs .entry)) ++ block (now (seed .entry)) j ⌝ }
 {
     let mid = 4 * xs.len();
-    put_numbers(xs, &mut out[..mid]);
+    bytes4::put_numbers(xs, &mut out[..mid]);
     let b = streams::block_of(seed, j);
     streams::copy(&b, &mut out[mid..]);
 }

@@ -8,7 +8,7 @@ use borrow.Author.Tests.{eq-eqb, ne-eqb}
 use lib.ListN.{length, getD, set, drop, length-append, length-drop, drop-of-length-le}
 use lib.Seq.{drop-cons, getD-at}
 use Rattle.lists.specs.Tab.{tab, tab-length}
-use Rattle.lists.specs.ReadingExtra.{front-more}
+use Rattle.lists.specs.Written.{front-more}
 use Rattle.numbers.specs.Sum.{sum}
 use Rattle.numbers.specs.Residue.{Residue}
 use Rattle.execution.specs.Shown.{placeOf}

@@ -1,12 +1,12 @@
 -- From the form, the walk and the three hashes to the verdict on the parts.
 -- Assumes nothing.
-use Prim.Native.Nat.{ℕ, zero, suc, _+_, _*_, _-_, _<_, _≤_}
-use mathlib.Core.Path.{_≡_, refl, sym, _∙_, ap, subst}
-use mathlib.Core.List.{List, [], _∷_, _++_}
+use Prim.Native.Nat.{ℕ, _+_, _*_, _-_}
+use mathlib.Core.Path.{_≡_, refl, sym, _∙_, ap}
+use mathlib.Core.List.{List, _++_}
 use native.Mathlib.Omega.{arith}
-use lib.ListN.{length, getD, take, drop}
+use lib.ListN.{length, take, drop}
 use Rattle.lists.specs.Index.{cat, part}
-use Rattle.lists.specs.Check.{Check, Verdict, accepted, refused, first}
+use Rattle.lists.specs.Check.{Check, accepted, first}
 use Rattle.lists.specs.TestLaws.{clean, first-stops, first-more}
 use Rattle.protocol.specs.Key.{Key, keptCount}
 use Rattle.protocol.specs.Transcript.{Parts}

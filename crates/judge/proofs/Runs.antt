@@ -1,26 +1,24 @@
 -- From the header and the seven slices to the verdict on a file, and from the key's bytes to the verdict on both.
 -- Assumes nothing.
-use Prim.Native.Nat.{ℕ, zero, suc, _+_, _*_, _-_, _<_, _≤_}
+use Prim.Native.Nat.{ℕ, suc, _+_, _*_, _-_, _<_, _≤_}
 use mathlib.Core.Path.{_≡_, refl, sym, _∙_, ap, ap₂, subst}
-use mathlib.Core.Bool.{Bool, true, false, not}
+use mathlib.Core.Bool.{true, false, not}
 use mathlib.Core.List.{List, [], _∷_, _++_}
-use native.Mathlib.Nat.{mul-le-mul, mul-le-mul-right}
+use native.Mathlib.Nat.{mul-le-mul}
 use native.Mathlib.Omega.{arith}
 use borrow.Author.Tests.{le-leb, lt-leb}
 use lib.Dec.{leb}
 use lib.ListN.{length, getD, take, drop}
 use lib.Seq.{take-at}
-use Rattle.lists.specs.Index.{holds}
 use Rattle.lists.specs.Tab.{tab, tab-length}
-use Rattle.lists.specs.Check.{Check, _⇒_, Verdict, accepted, refused, first}
-use Rattle.lists.specs.TestLaws.{not-of-true, not-of-false, first-hit, first-miss, first-stops, first-more, each-holds}
-use Rattle.lists.specs.ReadingExtra.{holds-fails}
+use Rattle.lists.specs.Check.{accepted, first}
+use Rattle.lists.specs.TestLaws.{not-of-true, not-of-false, first-hit, first-miss, first-stops, first-more, each-holds, holds-fails}
 use Rattle.protocol.specs.Key.{Key, entries, keyOf, keyChecks}
 use Rattle.protocol.specs.Transcript.{Parts, partAt, partsOf, sizes, goodHeader}
 use Rattle.protocol.specs.Judge.{partsChecks, runChecks, lentEnough, judgeLent}
 use Rattle.refusals.specs.Number.{numberOf}
 use Rattle.key.specs.declared.Numbers.{Numbers}
-use Rattle.key.specs.Numbers.{Of, Limits, Read, keyWith, of-with}
+use Rattle.key.specs.Numbers.{Read, keyWith}
 use Rattle.key.specs.KeyLaws.{entries-of, key-is}
 use Rattle.transcript.specs.Layout.{startOf, start-next, start-within, part-is, last-is, part-long}
 use Rattle.walk.specs.Walk.{partsFrom}

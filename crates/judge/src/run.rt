@@ -1,8 +1,7 @@
 // The judge on a transcript's file and on a key's bytes.
 
 ghost use mathlib.Core.Path.{_≡_};
-ghost use mathlib.Core.List.{List};
-ghost use Prim.Native.Nat.{ℕ, _+_, _*_, _-_, _≤_};
+ghost use Prim.Native.Nat.{_+_, _*_, _-_, _≤_};
 ghost use lib.ListN.{length};
 ghost use Rattle.lists.specs.Check.{first};
 ghost use Rattle.refusals.specs.Number.{numberOf};

@@ -16,11 +16,11 @@ use Rattle.lists.specs.TestLaws.{pick-true}
 use Rattle.numbers.specs.Sum.{sum}
 use Rattle.sha_core.specs.Fips180.{sha256}
 use Rattle.streams.specs.Streams.{block}
-use Rattle.protocol.specs.Key.{Key, depth}
-use Rattle.protocol.specs.Shares.{View, input, b, d, s, α, αsum, o, hin, Ωin, Πin}
+use Rattle.protocol.specs.Key.{Key}
+use Rattle.protocol.specs.Shares.{View, input, b, d, s, αsum, o, hin, Ωin, Πin}
 use Rattle.protocol.specs.Transcript.{Parts}
-use Rattle.protocol.specs.Judge.{hidden, replyAt, given, κ, keptView}
-use Rattle.execution.specs.Shown.{Sized, Holds, Seeded, Shown, placeOf}
+use Rattle.protocol.specs.Judge.{hidden, given, κ, keptView}
+use Rattle.execution.specs.Shown.{Holds, Shown, placeOf}
 use Rattle.views.specs.Seen.{ForH, ForΩ, ForΠ}
 use Rattle.views.proofs.Laws.{psi-is, outputs-sum}
 use Rattle.outputs.specs.Stated.{Stated}

@@ -1,8 +1,7 @@
 // A kept execution as the judge sees it.
 
 ghost use mathlib.Core.Path.{_≡_};
-ghost use mathlib.Core.List.{List};
-ghost use Prim.Native.Nat.{ℕ, _+_, _*_, _^_, _<_, _≤_};
+ghost use Prim.Native.Nat.{_+_, _*_, _^_, _<_, _≤_};
 ghost use lib.ListN.{length};
 ghost use Rattle.numbers.specs.Inverse.{Member, Ns};
 ghost use Rattle.protocol.specs.Key.{Key};

@@ -11,7 +11,7 @@ use Rattle.lists.specs.Index.{every, member, holds}
 use Rattle.lists.specs.Check.{first}
 use Rattle.lists.specs.Tab.{tab}
 use Rattle.lists.specs.Bytes.{num}
-use Rattle.lists.specs.ReadingExtra.{front-more}
+use Rattle.lists.specs.Written.{front-more}
 use Rattle.numbers.specs.Inverse.{Member, qs, Ns, N-cases}
 use Rattle.refusals.specs.Number.{numberOf}
 use Rattle.protocol.specs.Key.{Key, entries, keyOf, limits, keyChecks}

@@ -15,7 +15,7 @@ use Rattle.lists.specs.Index.{count, member, holds}
 use Rattle.lists.specs.Bytes.{num}
 use Rattle.lists.specs.Check.{accepted, first}
 use Rattle.lists.specs.TestLaws.{decide, every-at, Holds, holds-each, Clean, clean}
-use Rattle.lists.specs.ReadingExtra.{num-past}
+use Rattle.lists.specs.CatLaws.{num-past}
 use Rattle.numbers.specs.Inverse.{Member, qs, Ns, N-least, N-most}
 use Rattle.refusals.specs.Number.{numberOf, none-applies}
 use Rattle.protocol.specs.Key.{Key, entries, depth, keyOf, limits, keyChecks}

@@ -1,6 +1,8 @@
 // A key's bytes (document 01, Key): its six numbers, its limits, and the entries of A and t.
 
 use bytes4::le32;
+use numbers::is_modulus;
+use numbers::is_parties;
 use refusals::KEY_ENTRY;
 use refusals::KEY_LENGTH;
 use refusals::KEY_LIMITS;
@@ -12,10 +14,10 @@ ghost use Prim.Native.Nat.{_+_, _*_, _≤_};
 ghost use lib.Dec.{ltb};
 ghost use lib.ListN.{length, drop};
 ghost use Rattle.lists.specs.Tab.{tab};
-ghost use Rattle.lists.specs.Index.{every, member, holds};
+ghost use Rattle.lists.specs.Index.{every, holds};
 ghost use Rattle.lists.specs.Bytes.{num};
 ghost use Rattle.lists.specs.Check.{accepted, first};
-ghost use Rattle.numbers.specs.Inverse.{qs, Ns, Member};
+ghost use Rattle.numbers.specs.Inverse.{Ns, Member};
 ghost use Rattle.refusals.specs.Number.{numberOf};
 ghost use Rattle.protocol.specs.Key.{Key, entries, keyOf, limits, keyChecks};
 ghost use Rattle.key.specs.Numbers.{Of, Read, Depth};
@@ -28,44 +30,6 @@ pub struct Numbers {
     pub parties: usize,
     pub executions: usize,
     pub opened: usize,
-}
-
-// q is 257, 65537 or 2147483647.
-fn modulus_listed(q: u32) -> bool
-    ensures { λ r. ⌜ r ≡ member q qs ⌝ }
-{
-    if q == 257 {
-        return true;
-    }
-    if q == 65537 {
-        return true;
-    }
-    if q == 2147483647 {
-        return true;
-    }
-    false
-}
-
-// N is 2, 4, 8, 16 or 32.
-fn parties_listed(parties: usize) -> bool
-    ensures { λ r. ⌜ r ≡ member parties Ns ⌝ }
-{
-    if parties == 2 {
-        return true;
-    }
-    if parties == 4 {
-        return true;
-    }
-    if parties == 8 {
-        return true;
-    }
-    if parties == 16 {
-        return true;
-    }
-    if parties == 32 {
-        return true;
-    }
-    false
 }
 
 // n is 1 to 32, m is 2 to 128, n < m, N is listed, M is 2 to 32, τ is 1 to M - 1.
@@ -87,7 +51,7 @@ fn in_limits(k: Numbers) -> bool
     if k.n >= k.m {
         return false;
     }
-    if !parties_listed(k.parties) {
+    if !is_parties(k.parties) {
         return false;
     }
     if k.executions < 2 {
@@ -152,7 +116,7 @@ pub fn check(key: &[u8]) -> u32
         return KEY_SHORT;
     }
     let k = six(key);
-    if !modulus_listed(k.q) {
+    if !is_modulus(k.q) {
         return KEY_MODULUS;
     }
     if !in_limits(k) {

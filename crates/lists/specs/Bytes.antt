@@ -1,6 +1,6 @@
 -- Numbers of four bytes, little-endian (document 01: "A number takes 4 bytes in files and hash inputs").
 -- Assumes nothing.
-use Prim.Native.Nat.{ℕ, zero, suc, _+_, _*_, _/_, _%_}
+use Prim.Native.Nat.{ℕ, _+_, _*_, _/_, _%_}
 use mathlib.Core.List.{List, [], _∷_, _++_}
 use lib.ListN.{getD}
 use Rattle.lists.specs.Index.{cat, part}

@@ -8,8 +8,8 @@ use mathlib.Core.List.{List, [], _∷_, _++_, append-nil, append-assoc}
 use native.Mathlib.Nat.{add-zero, add-suc, sub-zero, zero-sub, suc-sub-suc, mod-eq-of-lt, not-suc-le-zero, le-of-suc-le-suc, eq-or-lt-of-le}
 use native.Mathlib.Numerals.{add-one}
 use native.Mathlib.Omega.{arith}
-use lib.ListN.{length, getD, take, drop, length-append, length-drop}
-use lib.Seq.{length-take-le, take-all, take-nil, take-at, drop-at, take-append-le, drop-append-le, drop-drop, take-take}
+use lib.ListN.{length, getD, take, drop, length-append, length-drop, drop-of-length-le}
+use lib.Seq.{length-take-le, take-all, take-nil, take-at, drop-at, take-append-le, drop-append-le, drop-drop, take-take, getD-take, getD-drop}
 use Rattle.lists.specs.Tab.{tab, list-tab}
 use Rattle.lists.specs.Index.{pick, cat, count, part}
 use Rattle.lists.specs.Bytes.{le4, rd4, words, nums, num}
@@ -140,16 +140,9 @@ rd4-le4 x h =
     let top : x / 16777216 % 256 ≡ x / 16777216 = mod-eq-of-lt (omega arith) in
     omega arith
 
-pub nums-zero : (f : ℕ → ℕ) → nums 0 f ≡ []
-unfolding nums cat
-nums-zero f = refl
-
 pub nums-suc : (n : ℕ) (f : ℕ → ℕ) → nums (suc n) f ≡ nums n f ++ le4 (f n)
 unfolding nums cat
 nums-suc n f = refl
-
-pub nums-more : (n : ℕ) (f : ℕ → ℕ) → nums (n + 1) f ≡ nums n f ++ le4 (f n)
-nums-more n f = rw add-one (nums-suc n f)
 
 pub nums-ext : (n : ℕ) {f g : ℕ → ℕ} → ((k : ℕ) → k < n → f k ≡ g k) → nums n f ≡ nums n g
 unfolding nums
@@ -182,6 +175,28 @@ unfolding num
 num-right a c k j e =
     let at : 4 * (k + j) ≡ 4 * k + 4 * j = omega arith in
     ap (λ i. rd4 (part (a ++ c) i 4)) at ∙ ap rd4 (part-right a c (4 * k) (4 * j) 4 e)
+
+-- Number j by its four bytes.
+pub num-at :
+    (x : List ℕ) (j : ℕ) → num x j ≡ getD x (4 * j) 0 + 256 * getD x (4 * j + 1) 0 + 65536 * getD x (4 * j + 2) 0 + 16777216 * getD x (4 * j + 3) 0
+unfolding num rd4
+num-at x j =
+    rw (
+      getD-take 4 (drop (4 * j) x) 0 0 (omega arith),
+      getD-take 4 (drop (4 * j) x) 1 0 (omega arith),
+      getD-take 4 (drop (4 * j) x) 2 0 (omega arith),
+      getD-take 4 (drop (4 * j) x) 3 0 (omega arith),
+      getD-drop (4 * j) x 0 0,
+      getD-drop (4 * j) x 1 0,
+      getD-drop (4 * j) x 2 0,
+      getD-drop (4 * j) x 3 0,
+      add-zero,
+    )
+
+-- A number past the end is 0.
+pub num-past : (x : List ℕ) (j : ℕ) → length x ≤ 4 * j → num x j ≡ 0
+unfolding num rd4
+num-past x j h = rw (drop-of-length-le x h)
 
 -- ---- numbers of a list
 pub words-append : (xs ys : List ℕ) → words (xs ++ ys) ≡ words xs ++ words ys

@@ -6,4 +6,4 @@ pub mod Check
 pub mod CatLaws
 pub mod TestLaws
 pub mod Inj
-pub mod ReadingExtra
+pub mod Written

@@ -258,9 +258,6 @@ least-all n p h k l = least-before n p k (omega arith)
 pub member-here : (x : ℕ) (y : ℕ) (l : List ℕ) → x ≡ y → member x (y ∷ l) ≡ true
 member-here x y l e = rw (eq-eqb x y e)
 
-pub member-there : (x : ℕ) (y : ℕ) (l : List ℕ) → (x ≡ y → ⊥) → member x (y ∷ l) ≡ member x l
-member-there x y l h = rw (ne-eqb x y h)
-
 -- Each entry is a member, and each member an entry.
 pub member-entry : (l : List ℕ) (j : ℕ) → j < length l → member (getD l j 0) l ≡ true
 member-entry [] j h = absurd (not-suc-le-zero h)
@@ -390,13 +387,16 @@ unfolding holds
 each-holds [] h = refl
 each-holds (b ∷ l) h = pick-true b (holds l) false (h .0) ∙ each-holds l (h .1)
 
-pub holds-cons : (b : Bool) (l : List Bool) → holds (b ∷ l) ≡ pick b (holds l) false
+-- A list of tests of which one fails.
+pub holds-fails : (l : List Bool) (j : ℕ) → getD l j true ≡ false → holds l ≡ false
 unfolding holds
-holds-cons b l = refl
-
-pub holds-nil : holds [] ≡ true
-unfolding holds
-holds-nil = refl
+holds-fails [] j e = e
+holds-fails (b ∷ l) zero e = pick-false b (holds l) false e
+holds-fails (b ∷ l) (suc j) e = go b (holds-fails l j e)
+  where
+    go : (t : Bool) → holds l ≡ false → pick t (holds l) false ≡ false
+    go true h = h
+    go false h = refl
 
 -- ---- first
 

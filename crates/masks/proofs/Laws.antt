@@ -1,7 +1,7 @@
 -- Laws for the b and s of an execution that is dealt.
 -- Assumes nothing.
-use Prim.Native.Nat.{ℕ, suc, _+_, _*_, _-_, _/_, _%_, _^_, _<_, _≤_}
-use mathlib.Core.Path.{_≡_, refl, sym, _∙_, ap, subst}
+use Prim.Native.Nat.{ℕ, suc, _+_, _*_, _-_, _/_, _%_, _^_, _<_}
+use mathlib.Core.Path.{_≡_, sym, _∙_, ap, subst}
 use mathlib.Core.List.{List}
 use native.Mathlib.Nat.{zero-add}
 use native.Mathlib.Decide.{ℕ-discrete}
@@ -16,8 +16,8 @@ use Rattle.streams.specs.Streams.{number, word64, block, number-lt}
 use Rattle.tree.specs.Tree.{leaf}
 use Rattle.tree.specs.TreeLaws.{leaf-length}
 use Rattle.protocol.specs.Key.{Key, depth}
-use Rattle.protocol.specs.Shares.{View, isN, share, b, s, dealt}
-use Rattle.execution.specs.Shown.{Sized, Seeded, placeOf}
+use Rattle.protocol.specs.Shares.{isN, share, b, s, dealt}
+use Rattle.execution.specs.Shown.{Seeded, placeOf}
 use Rattle.execution.specs.Lists.{Put, lastS, Reduced}
 use Rattle.execution.proofs.Laws.{inside}
 use Rattle.execution.proofs.Dealt.{with-key, share-number, before-last, seed-at}

@@ -13,7 +13,7 @@ use Rattle.sha_core.specs.Fips180.{sha256}
 use Rattle.protocol.specs.Shares.{hin, b, s, input}
 use Rattle.protocol.specs.Prover.{proverView, message1, hΓin, sized}
 use Rattle.execution.specs.Begun.{Begun}
-use Rattle.rounds.specs.Rounds.{OpenedHash}
+use Rattle.views.specs.Opened.{OpenedHash}
 use Rattle.message_1.specs.Parts.{FedH, First}
 
 pub h-none : (q m N D : ℕ) (seeds : List ℕ) (s : Sha) → FedH q m N D seeds s 0 s

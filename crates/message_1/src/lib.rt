@@ -37,7 +37,7 @@ fn h_gamma(
     while x < executions {
         let from = 16 * x;
         let to = from + 16;
-        let h = rounds::opened_hash(q, m, parties, depth, x, &seeds[from..to], leaves, work);
+        let h = views::opened::opened_hash(q, m, parties, depth, x, &seeds[from..to], leaves, work);
         let t = sha::update(s, &h);
         s = t;
         x += 1;

@@ -8,6 +8,7 @@ use native.Mathlib.Omega.{arith}
 use lib.Dec.{eqb}
 use lib.ListN.{length, getD, take, drop}
 use borrow.Author.Tests.{eq-eqb}
+use Rattle.lists.specs.Written.{both-parts, built-all, built-more, built-none, puts-none, puts-some}
 use Rattle.lists.specs.Index.{cat, pick, part}
 use Rattle.lists.specs.TestLaws.{pick-true}
 use Rattle.sha.specs.State.{Stands, Fed}
@@ -20,7 +21,6 @@ use Rattle.execution.specs.Shown.{Sized, Holds, placeOf}
 use Rattle.execution.specs.Begun.{Begun}
 use Rattle.masks.specs.Masks.{Carried, Masked}
 use Rattle.views.specs.Seen.{ForΩ, ForΠ}
-use Rattle.prover.proofs.Laws.{puts-none, puts-some, built-none, built-more, built-all, both-parts}
 use Rattle.message_3.specs.Parts.{OmegaOf, PiOf, KeptPuts, KeptBuilt, KeptAll, KeptPart, Rest}
 
 -- ---- one execution that is dealt

@@ -4,13 +4,13 @@ use Prim.Native.Nat.{ℕ, _+_}
 use mathlib.Core.Path.{_≡_}
 use mathlib.Core.List.{List, _++_, []}
 use lib.ListN.{getD}
+use Rattle.lists.specs.Written.{Built, Puts}
 use Rattle.lists.specs.Index.{cat, pick}
 use Rattle.sha_core.specs.Fips180.{sha256}
 use Rattle.protocol.specs.Key.{Key, depth}
 use Rattle.protocol.specs.Shares.{Ωin, Πin, dealt}
 use Rattle.protocol.specs.Prover.{proverView, opened, hπin}
 use Rattle.execution.specs.Shown.{Sized}
-use Rattle.prover.specs.Parts.{Puts, Built}
 
 -- Ω and Π of an execution that is dealt
 pub record OmegaOf (q m N D e : ℕ) (master secret r : List ℕ) : Type 0 where

@@ -1,19 +1,20 @@
 -- Laws for message 7.
 -- Assumes nothing.
-use Prim.Native.Nat.{ℕ, suc, _+_, _*_, _-_, _<_, _≤_}
+use Prim.Native.Nat.{ℕ, _+_, _*_, _-_, _<_, _≤_}
 use mathlib.Core.Path.{_≡_, refl, sym, _∙_, ap, ap₂, subst}
-use mathlib.Core.Bool.{Bool, true, false}
+use mathlib.Core.Bool.{true, false}
 use mathlib.Core.List.{List, [], _∷_, _++_}
 use native.Mathlib.Omega.{arith}
-use lib.Dec.{eqb, leb}
+use lib.Dec.{leb}
 use lib.ListN.{length, getD, take, drop, length-append, List·getD-append}
 use borrow.Author.Tests.{leb-true}
+use Rattle.lists.specs.Written.{built-all, built-more, built-none, puts-none, puts-some}
 use Rattle.lists.specs.Tab.{tab, tab-at, tab-length}
-use Rattle.lists.specs.Index.{cat, count, pick, part}
+use Rattle.lists.specs.Index.{cat, count, pick}
 use Rattle.lists.specs.TestLaws.{every-at, holds-each, pick-true, pick-false}
-use Rattle.numbers.specs.Sum.{sum, sum-ext, sum-zero, sum-suc, sum-more, sum-grows}
-use Rattle.protocol.specs.Key.{Key, depth, entries}
-use Rattle.protocol.specs.Prover.{proverView, opened, place, hiddenOf, reply, kept, message7, goodE, goodHidden}
+use Rattle.numbers.specs.Sum.{sum, sum-ext, sum-zero, sum-more, sum-grows}
+use Rattle.protocol.specs.Key.{Key, entries}
+use Rattle.protocol.specs.Prover.{proverView, opened, place, hiddenOf, kept, message7, goodE, goodHidden}
 use Rattle.protocol.specs.Transcript.{Parts}
 use Rattle.protocol.specs.Judge.{hidden, givenCount, replySize}
 use Rattle.protocol.proofs.Opened.{place-lt}
@@ -23,8 +24,7 @@ use Rattle.key.specs.declared.Numbers.{Numbers}
 use Rattle.key.specs.Numbers.{Of, Depth, keyWith, of-with}
 use Rattle.transcript.specs.Replies.{partsWith, size-kept}
 use Rattle.response.specs.Replies.{DealtReply}
-use Rattle.prover.specs.Parts.{Puts, Built}
-use Rattle.prover.proofs.Laws.{puts-none, puts-some, built-none, built-more, built-all, sized-of}
+use Rattle.prover.proofs.Laws.{sized-of}
 use Rattle.message_7.specs.Parts.{replyLength, repliesLength, Hides, KeyIn, replyAt, partOf, ReplyPuts, RepliesBuilt, RepliesAre, MessageIs}
 
 -- ---- one reply

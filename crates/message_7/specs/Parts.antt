@@ -5,6 +5,7 @@ use mathlib.Core.Path.{_≡_}
 use mathlib.Core.Bool.{false}
 use mathlib.Core.List.{List, [], _++_}
 use lib.ListN.{getD}
+use Rattle.lists.specs.Written.{Built, Puts}
 use Rattle.lists.specs.Index.{cat, pick, part}
 use Rattle.numbers.specs.Sum.{sum}
 use Rattle.protocol.specs.Key.{Key}
@@ -12,7 +13,6 @@ use Rattle.protocol.specs.Prover.{proverView, opened, place, hiddenOf, reply}
 use Rattle.execution.specs.Prepared.{lastCount}
 use Rattle.key.specs.declared.Numbers.{Numbers}
 use Rattle.key.specs.Numbers.{Of}
-use Rattle.prover.specs.Parts.{Puts, Built}
 
 -- Document 01, part 7: how many bytes a reply has that hides party h, and how many the replies of the kept executions below n have
 unfoldable pub replyLength : Numbers → ℕ → ℕ → ℕ

@@ -1,9 +1,8 @@
 // Message 7: the seed κ, and the reply of each kept execution.
 
 ghost use mathlib.Core.Path.{_≡_};
-ghost use mathlib.Core.Bool.{true, false};
-ghost use mathlib.Core.List.{List};
-ghost use Prim.Native.Nat.{ℕ, _+_, _*_, _-_, _<_, _≤_};
+ghost use mathlib.Core.Bool.{true};
+ghost use Prim.Native.Nat.{_+_, _*_, _-_, _<_, _≤_};
 ghost use lib.ListN.{length, getD};
 ghost use Rattle.lists.specs.Check.{accepted, first};
 ghost use Rattle.protocol.specs.Key.{keyOf, keyChecks, entries as entriesOf};

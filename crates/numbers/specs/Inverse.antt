@@ -17,22 +17,12 @@ use Rattle.numbers.specs.Prime.{Prime, prime-257, prime-65537, prime-214
 pub record Member (x : ℕ) (l : List ℕ) : Type 0 where
   pub listed : member x l ≡ true
 
-pub member-first : (x : ℕ) (l : List ℕ) → Member x (x ∷ l)
-member-first x l = record { listed = rw (eq-eqb x x refl, member) }
-
 pub member-split : {x y : ℕ} {l : List ℕ} → Member x (y ∷ l) → (x ≡ y) ⊎ Member x l
 member-split {x} {y} {l} h = go (eqb x y) refl (h .listed)
   where
     go : (t : Bool) → eqb x y ≡ t → pick t true (member x l) ≡ true → (x ≡ y) ⊎ Member x l
     go true e k = inl (eqb-true x y e)
     go false e k = inr (record { listed = k })
-
-pub member-rest : {x : ℕ} (y : ℕ) {l : List ℕ} → Member x l → Member x (y ∷ l)
-member-rest {x} y {l} h = record { listed = go (eqb x y) }
-  where
-    go : (t : Bool) → pick t true (member x l) ≡ true
-    go true = refl
-    go false = h .listed
 
 -- A chain of tests for membership: at the element, past it, and at the last one.
 pub member-found : {x y : ℕ} (l : List ℕ) → x ≡ y → true ≡ member x (y ∷ l)
@@ -94,7 +84,7 @@ N-most h = each (λ N. N ≤ 32) Ns h (omega arith, (omega arith, (omega arith, 
 
 -- Document 01, Shares and messages: the inverse of N modulo q. Where q = 1 modulo N, N * (q / N) = -1; else q = -1, and N * (q / N + 1) = 1.
 unfoldable pub inverseOf : ℕ → ℕ → ℕ
-inverseOf q N = elim (eqb (q % N) 1) [ true ↦ q - q / N | false ↦ q / N + 1 ]
+inverseOf q N = pick (eqb (q % N) 1) (q - q / N) (q / N + 1)
 
 -- The 15 products.
 pub inverse-law : {q N : ℕ} → Member q qs → Member N Ns → (N * inverseOf q N) % q ≡ 1

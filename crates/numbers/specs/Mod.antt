@@ -2,7 +2,7 @@
 -- Proofs take q as `suc c`; c then stands for -1. Assumes nothing.
 use Prim.Native.Nat.{ℕ, suc, _+_, _*_, _-_, _/_, _%_, _<_, _≤_}
 use mathlib.Core.Path.{_≡_, refl, sym, _∙_, ap, ap₂}
-use native.Mathlib.Nat.{zero-add, add-mul-mod-self-left, add-mod, mod-mod, mod-lt, mod-eq-of-lt, mod-self, zero-mod, div-add-mod, zero-lt-suc}
+use native.Mathlib.Nat.{zero-add, add-mul-mod-self-left, add-mod, mod-mod, mod-lt, mod-eq-of-lt, zero-mod, div-add-mod, zero-lt-suc}
 use native.Mathlib.Omega.{arith}
 
 -- a and b are one number modulo q.
@@ -29,9 +29,6 @@ cong-by q a b x y e = record { same = sym (add-mul-mod-self-left a q x) ∙ ap (
 pub cong-mod : (q a : ℕ) → Cong q (a % q) a
 cong-mod q a = record { same = mod-mod a q }
 
-pub cong-self : (q : ℕ) → Cong q q 0
-cong-self q = record { same = mod-self q ∙ sym (zero-mod q) }
-
 pub cong-add : {q a b c d : ℕ} → Cong q a b → Cong q c d → Cong q (a + c) (b + d)
 cong-add {q} {a} {b} {c} {d} h k = record { same = add-mod a c q ∙ ap₂ (λ x y. (x + y) % q) (h .same) (k .same) ∙ sym (add-mod b d q) }
 
@@ -56,9 +53,6 @@ cong-rest h e = sym (mod-eq-of-lt h) ∙ e .same
 
 pub cong-zero : {q a : ℕ} → Cong q a 0 → a % q ≡ 0
 cong-zero {q} h = h .same ∙ zero-mod q
-
-pub zero-cong : {q a : ℕ} → a % q ≡ 0 → Cong q a 0
-zero-cong {q} e = record { same = e ∙ sym (zero-mod q) }
 
 -- The difference a - b modulo q.
 unfoldable pub sub : ℕ → ℕ → ℕ → ℕ

@@ -117,14 +117,6 @@ sum-out {q = suc c} r a hq hN h =
     row : (l : ℕ) → Cong (suc c) (r .t l * (r .N * inverseOf (suc c) (r .N)) + c * sum (r .m) (λ k. r .A l k * join (r .N) (r .s) k)) (sub (suc c) (r .t l) (sum (r .m) (λ k. r .A l k * join (r .N) (r .s) k)))
     row l = cong-trans (cong-add (cong-trans (cong-eq (omega arith)) (inverse-mul hq hN (r .t l))) cong-refl) (cong-sym (sub-is c _ _))
 
-pub u-lt : {q : ℕ} → 0 < q → (m : ℕ) (A : ℕ → ℕ → ℕ) (t s : ℕ → ℕ) (l : ℕ) → uOf q m A t s l < q
-unfolding uOf
-u-lt h m A t s l = sub-lt h _ _
-
-pub v-lt : {q : ℕ} → 0 < q → (s : ℕ → ℕ) (k : ℕ) → vOf q s k < q
-unfolding vOf
-v-lt h s k = sub-lt h _ _
-
 -- u and v look at s modulo q.
 pub u-cong : {q : ℕ} → 0 < q → (m : ℕ) (A : ℕ → ℕ → ℕ) (t : ℕ → ℕ) {s z : ℕ → ℕ} → ((k : ℕ) → k < m → Cong q (s k) (z k)) → (l : ℕ) → uOf q m A t s l ≡ uOf q m A t z l
 unfolding uOf
@@ -147,14 +139,6 @@ solves-v {q} {s = s} p S k h = sub-zero p (go (s k % q) (cong-mod q (s k)) (S .b
     go zero e l = cong-trans (cong-sym (cong-mul e e)) e
     go (suc zero) e l = cong-trans (cong-sym (cong-mul e e)) e
     go (suc (suc x)) e l = absurd (omega arith)
-
--- Being a solution is a matter of s modulo q.
-pub solves-cong : {q n m : ℕ} {A : ℕ → ℕ → ℕ} {t s z : ℕ → ℕ} → ((k : ℕ) → k < m → Cong q (s k) (z k)) → Solves q n m A t s → Solves q n m A t z
-solves-cong {m = m} h S =
-    record {
-      target = λ l y. cong-trans (sum-cong m (λ k w. cong-mul cong-refl (cong-sym (h k w)))) (S .target l y);
-      binary = λ k y. rw (← h k y .same) (S .binary k y);
-    }
 
 -- Where u and v are all 0, s is a solution: q is prime.
 pub zero-solves : {q n m : ℕ} {A : ℕ → ℕ → ℕ} {t s : ℕ → ℕ} → Member q qs
@@ -220,14 +204,6 @@ out-ext q r z a e i H h =
     (sum-same (H .n) (λ l y. ap₂ (λ x w. x * w) (H .β l y) (ap₂ (sub q) (ap₂ (λ x w. x * inverseOf q w) (H .t l y) (H .N)) (sum-same (H .m) (λ k w. ap₂ (λ x v. x * v) (H .A l k y w) (H .s k w))))))
     (sum-same (H .m) (λ k y. ap₂ (λ x w. x * w) (H .γ k y) (ap₂ (sub q) (ap₂ (λ x w. x + w) (ap₂ (λ x w. x * w) (h k y) (ap₂ (λ x w. x + w) (H .s k y) (H .b k y))) (H .d k y)) (H .s k y))))
 
--- `out` looks at α modulo q.
-pub out-alpha : {q : ℕ} → 0 < q → (r : Run) (a e : ℕ → ℕ) (i : ℕ) → ((k : ℕ) → k < r .m → Cong q (a k) (e k)) → out q r a i ≡ out q r e i
-unfolding out
-out-alpha p r a e i h =
-    cong-add cong-refl
-    (sum-cong (r .m) (λ k y. cong-mul cong-refl (sub-cong p (cong-add (cong-mul (h k y) cong-refl) cong-refl) cong-refl)))
-    .same
-
 -- ---- The same number with one pass over the columns: what does not depend on the party is computed once.
 -- -(sum over l of β(l) A(l, k)).
 unfoldable pub weightOf : ℕ → ℕ → (ℕ → ℕ) → (ℕ → ℕ → ℕ) → ℕ → ℕ
@@ -240,14 +216,6 @@ baseOf q N n β t = sum n (λ l. β l * (t l * inverseOf q N)) % q
 -- The term of column k of a party with s, b, d.
 unfoldable pub termOf : ℕ → (w γ a s b d : ℕ) → ℕ
 termOf q w γ a s b d = w * s + γ * sub q (a * (s + b) + d) s
-
--- The numbers of a column that a step multiplies are below q.
-pub record Column (q w γ a s b : ℕ) : Type 0 where
-  pub w-lt : w < q
-  pub γ-lt : γ < q
-  pub a-lt : a < q
-  pub s-lt : s < q
-  pub b-lt : b < q
 
 pub row-plain : (c x : ℕ) (n m : ℕ) (β t s : ℕ → ℕ) (A : ℕ → ℕ → ℕ)
     → sum n (λ l. β l * (t l * x + c * sum m (λ k. A l k * s k)))

@@ -101,14 +101,6 @@ pub loop-next : (q i acc y : ℕ) (f : ℕ → ℕ) → acc ≡ sum i f % q → 
 loop-next q i acc y f e h =
     rw (e, sum-more) (cong-add (cong-mod q (sum i f)) h .same)
 
--- The same from a start x.
-pub loop-next-from : (q x i acc y : ℕ) (f : ℕ → ℕ) → acc ≡ (x + sum i f) % q → Cong q y (f i) → (acc + y) % q ≡ (x + sum (i + 1) f) % q
-loop-next-from q x i acc y f e h =
-    rw (e, sum-more) (cong-trans {c = x + (sum i f + f i)} (cong-add (cong-mod q (x + sum i f)) h) (cong-eq (omega arith)) .same)
-
-pub loop-first-from : (q x : ℕ) (f : ℕ → ℕ) → x % q ≡ (x + sum 0 f) % q
-loop-first-from q x f = ap (λ y. y % q) (sym (ap (λ y. x + y) (sum-zero f) ∙ add-zero x))
-
 -- ---- shares
 -- The shares of one number among n parties, the last being what the others leave of x, add up to x.
 pub last-share : {q : ℕ} → 0 < q → (n x : ℕ) (f : ℕ → ℕ) → f n ≡ sub q x (sum n f) → Cong q (sum (suc n) f) x

@@ -1,11 +1,10 @@
 // Arithmetic modulo the three primes q of document 01. `reduced` has an arm for each q, so that its remainders are by constants.
 
 ghost use mathlib.Core.Path.{_≡_};
-ghost use Prim.Native.Nat.{ℕ, _+_, _*_, _%_, _<_};
+ghost use Prim.Native.Nat.{_+_, _*_, _%_, _<_};
 ghost use Rattle.numbers.specs.Mod.{sub};
 ghost use Rattle.lists.specs.Index.{member};
 ghost use Rattle.numbers.specs.Inverse.{Member, qs, Ns, inverseOf};
-ghost use Rattle.numbers.specs.Output.{Column, termOf};
 ghost use Rattle.numbers.specs.Residue.{Residue};
 
 // Whether q is one of the moduli of a key.
@@ -22,7 +21,7 @@ pub fn is_modulus(q: u32) -> bool
 }
 
 // Whether n is one of the numbers of parties of a key.
-pub fn is_parties(n: u32) -> bool
+pub fn is_parties(n: usize) -> bool
     ensures { λ r. ⌜ r ≡ member n Ns ⌝ }
 {
     if n == 2 {
@@ -52,20 +51,6 @@ pub fn reduced(x: u64, q: u32) -> u32
         return (x % 65537) as u32;
     }
     (x % 2147483647) as u32
-}
-
-// a + b modulo q.
-pub fn add_mod(a: u32, b: u32, q: u32) -> u32
-    requires { ⌜ Member q qs ⌝ }
-    requires { ⌜ a < q ⌝ }
-    requires { ⌜ b < q ⌝ }
-    ensures { λ r. ⌜ Residue q ((a + b) % q) r ⌝ }
-{
-    let c = a + b;
-    if c < q {
-        return c;
-    }
-    c - q
 }
 
 // a - b modulo q.
@@ -107,17 +92,4 @@ pub fn inverse_of(q: u32, n: u32) -> u32
         return q - q / n;
     }
     q / n + 1
-}
-
-// One column of a party's output: acc + w * s + g * (a * (s + b) + d - s) modulo q, with two remainders.
-pub fn output_step(acc: u32, w: u32, g: u32, a: u32, s: u32, b: u32, d: u32, q: u32) -> u32
-    requires { ⌜ Member q qs ⌝ }
-    requires { ⌜ Column q w g a s b ⌝ }
-    ensures { λ r. ⌜ Residue q ((acc + termOf q w g a s b d) % q) r ⌝ }
-{
-    let y = reduced(
-        a as u64 * (s as u64 + b as u64) + d as u64 + (q - s) as u64,
-        q,
-    );
-    reduced(acc as u64 + (w as u64 * s as u64 + g as u64 * y as u64), q)
 }

@@ -1,9 +1,9 @@
 -- From the refusals and the fork to what the pair reader answers.
 -- Assumes nothing.
-use Prim.Native.Nat.{ℕ, suc, _+_, _*_, _≤_}
+use Prim.Native.Nat.{ℕ, suc, _≤_}
 use mathlib.Core.Path.{_≡_, refl, sym, _∙_, ap, subst}
-use mathlib.Core.Bool.{Bool, true, false, not}
-use mathlib.Core.List.{List, [], _∷_, _++_}
+use mathlib.Core.Bool.{true, false, not}
+use mathlib.Core.List.{List, [], _∷_}
 use native.Mathlib.Omega.{arith}
 use borrow.Author.Tests.{not-false}
 use Rattle.lists.specs.Index.{same}
@@ -12,7 +12,7 @@ use Rattle.lists.specs.TestLaws.{Clean, clean, holds-each, same-eq, first-stops
 use Rattle.protocol.specs.Key.{Key, keyOf, keyChecks}
 use Rattle.protocol.specs.Transcript.{Parts, partsOf}
 use Rattle.protocol.specs.Judge.{runChecks}
-use Rattle.protocol.specs.Pair.{Reading, refusal, firstDifferent, comparisons, values, execution, finding, sameFront, isAccepted, enough, Lengths, pairChecks, readOf, pair}
+use Rattle.protocol.specs.Pair.{Reading, firstDifferent, comparisons, values, execution, finding, sameFront, isAccepted, enough, Lengths, pairChecks, readOf, pair}
 use Rattle.protocol.specs.Accepts.{GoodKey}
 use Rattle.refusals.specs.Number.{numberOf, none-applies}
 use Rattle.key.specs.declared.Numbers.{Numbers}

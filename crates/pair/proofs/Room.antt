@@ -2,13 +2,11 @@
 -- Assumes nothing.
 use Prim.Native.Nat.{ℕ, _+_, _*_, _≤_, _<_}
 use mathlib.Core.Path.{_≡_, sym, ap₂, subst}
-use mathlib.Core.Bool.{Bool, true, false}
-use mathlib.Core.List.{List, [], _∷_}
+use mathlib.Core.Bool.{true, false}
+use mathlib.Core.List.{[], _∷_}
 use borrow.Author.Tests.{le-leb, lt-leb, leb-true}
 use lib.Dec.{leb}
-use Rattle.lists.specs.Index.{holds}
-use Rattle.lists.specs.TestLaws.{Holds, holds-each, each-holds}
-use Rattle.lists.specs.ReadingExtra.{holds-fails}
+use Rattle.lists.specs.TestLaws.{Holds, holds-each, each-holds, holds-fails}
 use Rattle.protocol.specs.Key.{Key, entries}
 use Rattle.protocol.specs.Pair.{enough}
 use Rattle.key.specs.declared.Numbers.{Numbers}

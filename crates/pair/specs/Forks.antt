@@ -11,8 +11,6 @@ use Rattle.protocol.specs.Transcript.{Parts, partsOf}
 use Rattle.protocol.specs.Judge.{hidden, κ, keptView, runChecks}
 use Rattle.protocol.specs.Pair.{execution, sameFront}
 use Rattle.protocol.specs.Accepts.{GoodKey}
-use Rattle.key.specs.declared.Numbers.{Numbers}
-use Rattle.key.specs.Numbers.{Of}
 use Rattle.inputs.specs.Layout.{Written}
 use Rattle.joined.specs.Joined.{Joined}
 

@@ -1,7 +1,6 @@
 // Where two transcripts fork, and whether the lent lists are long enough.
 
 ghost use mathlib.Core.Path.{_≡_};
-ghost use Prim.Native.Nat.{_≤_, _<_};
 ghost use Rattle.protocol.specs.Key.{Key};
 ghost use Rattle.protocol.specs.Transcript.{partsOf};
 ghost use Rattle.protocol.specs.Pair.{enough};

@@ -1,12 +1,12 @@
 // Two accepted transcripts that fork: the execution is opened in both, and read.
 
 ghost use mathlib.Core.Path.{_≡_};
-ghost use Prim.Native.Nat.{suc, _+_, _*_, _-_, _≤_, _<_};
+ghost use Prim.Native.Nat.{suc, _+_, _*_, _≤_};
 ghost use lib.ListN.{length};
 ghost use Rattle.protocol.specs.Transcript.{partsOf};
 ghost use Rattle.protocol.specs.Pair.{firstDifferent, comparisons, values};
 ghost use Rattle.key.specs.Numbers.{Limits, keyWith};
-ghost use Rattle.walk.specs.Lists.{listsSize, Listed};
+ghost use Rattle.walk.specs.Lists.{Listed};
 ghost use Rattle.inputs.specs.Layout.{executionSize};
 ghost use Rattle.side.specs.Side.{Sound};
 ghost use Rattle.finding.specs.Reads.{Reads};

@@ -2,7 +2,6 @@
 // valid pointers.
 
 ghost use mathlib.Core.Path.{_≡_};
-ghost use Prim.Native.Nat.{ℕ};
 ghost use lib.ListN.{length};
 ghost use Rattle.sha_core.specs.Fips180.{sha256};
 ghost use Rattle.aes.specs.Fips197.{keyExpansion, cipher};

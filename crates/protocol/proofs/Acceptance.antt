@@ -1,6 +1,6 @@
 -- Honest acceptance: a transcript made of the prover's own messages is accepted, whichever valid challenges came.
 -- Assumes nothing.
-use Prim.Native.Nat.{ℕ, zero, suc, _+_, _-_, _%_, _<_}
+use Prim.Native.Nat.{ℕ, zero, suc, _+_, _%_, _<_}
 use mathlib.Core.Path.{_≡_, refl, sym, _∙_, ap, subst}
 use mathlib.Core.Bool.{Bool, true, false, not}
 use mathlib.Core.List.{List, [], _++_}
@@ -19,7 +19,8 @@ use Rattle.protocol.specs.Prover.{opened, kept, hiddenOf, proverView, ma
 use Rattle.protocol.specs.Transcript.{Parts, sizes, list, transcript}
 use Rattle.protocol.specs.Honest.{honestParts}
 use Rattle.protocol.specs.Judge.{hidden, givenCount, replySize, given, ΩAt, hπAt, openedView, keptView, view, goodNumbers, formChecks, executionChecks, hashChecks, partsChecks, runChecks, judge}
-use Rattle.protocol.proofs.KeyFacts.{Good, good}
+use Rattle.protocol.specs.Accepts.{GoodKey}
+use Rattle.protocol.proofs.KeyFacts.{good}
 use Rattle.protocol.proofs.Opened.{E-length}
 use Rattle.protocol.proofs.HonestSum.{dealt-zero}
 use Rattle.protocol.proofs.Sees.{Sees, sees-hin, sees-Ωin, sees-Πin, sees-Ψin, sees-sum}
@@ -32,7 +33,7 @@ hin-secret : (K : Key) (e : ℕ) (seed : List ℕ) (x y : ℕ → ℕ) → hin K
 unfolding hin Γ Γin dealt
 hin-secret K e seed x y = refl
 
-module _ (K : Key) (seeds secret E κ L hid : List ℕ) (G : Good K) (I : Valid K seeds secret E κ L hid) where
+module _ (K : Key) (seeds secret E κ L hid : List ℕ) (G : GoodKey K) (I : Valid K seeds secret E κ L hid) where
   abbrev P : Parts
   P = honestParts K seeds secret E κ L hid
 
@@ -85,13 +86,16 @@ module _ (K : Key) (seeds secret E κ L hid : List ℕ) (G : Good K) (I : Valid 
       go e h false c = execution-clean e h c
 
   -- 17, 18, 19
-  view-kept : (e : ℕ) → opened E e ≡ false → view K P e ≡ keptView K P e
+  pub view-kept : (e : ℕ) → opened E e ≡ false → view K P e ≡ keptView K P e
   unfolding view
   view-kept e c = pick-false (opened E e) (openedView K P e) (keptView K P e) c
 
   view-opened : (e : ℕ) → opened E e ≡ true → view K P e ≡ openedView K P e
   unfolding view
   view-opened e c = pick-true (opened E e) (openedView K P e) (keptView K P e) c
+
+  pub view-sees : (e : ℕ) → e < K .M → opened E e ≡ false → Sees K L (whole e) (view K P e)
+  view-sees e h c = subst (Sees K L (whole e)) (sym (view-kept e c)) (seen e h c)
 
   hin-view : (e : ℕ) → e < K .M → hin K (view K P e) ≡ hin K (proverView K seeds [] e)
   unfolding openedView proverView
@@ -101,11 +105,15 @@ module _ (K : Key) (seeds secret E κ L hid : List ℕ) (G : Good K) (I : Valid 
       go true c =
           ap (hin K) (view-opened e c) ∙ ap (λ x. hin K (dealt K e x (λ k. 0))) (master-at K seeds secret E κ L hid G I e h c)
       go false c =
-          ap (hin K) (view-kept e c) ∙ sees-hin K L _ _ (seen e h c) ∙ hin-secret K e (master K seeds secret e) _ _
+          sees-hin K L _ _ (view-sees e h c) ∙ hin-secret K e (master K seeds secret e) _ _
+
+  pub hΓin-is : hΓin K (view K P) ≡ hΓin K (proverView K seeds [])
+  unfolding hΓin
+  hΓin-is = ap (input 1 0 0) (cat-ext (K .M) (λ e h. ap H (hin-view e h)))
 
   hΓ-same : P .p1 ≡ H (hΓin K (view K P))
-  unfolding message1 hΓin
-  hΓ-same = ap (λ x. H (input 1 0 0 x)) (cat-ext (K .M) (λ e h. ap H (sym (hin-view e h))))
+  unfolding message1
+  hΓ-same = sym (ap H hΓin-is)
 
   -- What is joined of the kept executions.
   kept-same : (f g : ℕ → List ℕ) → ((e : ℕ) → e < K .M → opened E e ≡ false → f e ≡ g e) → kept K E f ≡ kept K E g
@@ -116,22 +124,29 @@ module _ (K : Key) (seeds secret E κ L hid : List ℕ) (G : Good K) (I : Valid 
       go e h true c = refl
       go e h false c = same e h c
 
-  hπ-same : hπAt K P ≡ H (hπin K (view K P) E (take 16 (P .p7)))
+  -- the inputs of a kept execution, with the seed K that part 7 begins with
+  pub Πin-is : (e : ℕ) → e < K .M → opened E e ≡ false → Πin K (view K P e) (take 16 (P .p7)) ≡ Πin K (whole e) κ
+  Πin-is e h c =
+      sees-Πin K L _ _ (view-sees e h c) (take 16 (P .p7)) ∙ ap (Πin K (whole e)) (κ-at K seeds secret E κ L hid G I)
+
+  pub Ψin-is : (e : ℕ) → e < K .M → opened E e ≡ false → Ψin K (view K P e) (take 16 (P .p7)) L ≡ Ψin K (whole e) κ L
+  Ψin-is e h c =
+      sees-Ψin K L _ _ (view-sees e h c) (take 16 (P .p7)) ∙ ap (λ x. Ψin K (whole e) x L) (κ-at K seeds secret E κ L hid G I)
+
+  pub hπin-is : hπin K (view K P) E (take 16 (P .p7)) ≡ hπin K whole E κ
   unfolding hπin
-  hπ-same =
-      hπ-at K seeds secret E κ L hid G I
-      ∙ ap (λ x. H (input 5 0 0 x))
-      (kept-same _ _ (λ e h c. ap H
-      (sym (ap (λ v. Πin K v (take 16 (P .p7))) (view-kept e c) ∙ sees-Πin K L _ _ (seen e h c) (take 16 (P .p7))
-      ∙ ap (Πin K (whole e)) (κ-at K seeds secret E κ L hid G I)))))
+  hπin-is = ap (input 5 0 0) (kept-same _ _ (λ e h c. ap H (Πin-is e h c)))
+
+  pub hψin-is : hψin K (view K P) E (take 16 (P .p7)) L ≡ hψin K whole E κ L
+  unfolding hψin
+  hψin-is = ap (input 7 0 0) (kept-same _ _ (λ e h c. ap H (Ψin-is e h c)))
+
+  hπ-same : hπAt K P ≡ H (hπin K (view K P) E (take 16 (P .p7)))
+  hπ-same = hπ-at K seeds secret E κ L hid G I ∙ sym (ap H hπin-is)
 
   hψ-same : P .p5 ≡ H (hψin K (view K P) E (take 16 (P .p7)) L)
-  unfolding message5 hψin
-  hψ-same =
-      ap (λ x. H (input 7 0 0 x))
-      (kept-same _ _ (λ e h c. ap H
-      (sym (ap (λ v. Ψin K v (take 16 (P .p7)) L) (view-kept e c) ∙ sees-Ψin K L _ _ (seen e h c) (take 16 (P .p7))
-      ∙ ap (λ x. Ψin K (whole e) x L) (κ-at K seeds secret E κ L hid G I)))))
+  unfolding message5
+  hψ-same = sym (ap H hψin-is)
 
   hash-clean : Clean (hashChecks K P)
   unfolding hashChecks
@@ -184,7 +199,7 @@ unfolding judge
 honest-accepted key seeds secret E κ L hid e =
     let c = clean (keyChecks (keyOf key) key ++ checks7 (keyOf key) seeds secret E κ L hid) e in
     let k = clean-left (keyChecks (keyOf key) key) (checks7 (keyOf key) seeds secret E κ L hid) c in
-    let G : Good (keyOf key) = good (keyOf key) key k in
+    let G : GoodKey (keyOf key) = good (keyOf key) key k in
     cleared _
     (clean-append (keyChecks (keyOf key) key) _ k
     (run-clean (keyOf key) seeds secret E κ L hid G

@@ -105,7 +105,7 @@ module _ (K : Key) (P R : Parts) (key : GoodKey K) (p : GoodParts K P) (r : Good
 
 -- ---- the joined values
 module _ (K : Key) (x : ℕ → ℕ) where
-  solution-of : holds (solves K x ∷ binary K x ∷ []) ≡ true → Solution K x
+  pub solution-of : holds (solves K x ∷ binary K x ∷ []) ≡ true → Solution K x
   unfolding solves binary
   solution-of h =
       let l = holds-each (solves K x ∷ binary K x ∷ []) h in
@@ -114,7 +114,7 @@ module _ (K : Key) (x : ℕ → ℕ) where
         binary = λ k b. leb-true _ _ (every-at _ _ (l .1 .0) k b);
       }
 
-  solution-holds : Solution K x → holds (solves K x ∷ binary K x ∷ []) ≡ true
+  pub solution-holds : Solution K x → holds (solves K x ∷ binary K x ∷ []) ≡ true
   unfolding solves binary
   solution-holds S =
       each-holds (solves K x ∷ binary K x ∷ []) (
@@ -123,7 +123,7 @@ module _ (K : Key) (x : ℕ → ℕ) where
       )
 
 -- A solution is one for every list that agrees with it.
-solution-ext : (K : Key) (x y : ℕ → ℕ) → ((k : ℕ) → k < K .m → x k ≡ y k) → Solution K x → Solution K y
+pub solution-ext : (K : Key) (x y : ℕ → ℕ) → ((k : ℕ) → k < K .m → x k ≡ y k) → Solution K x → Solution K y
 solution-ext K x y h S =
     record {
       target = λ l b. ap (λ (z : ℕ). z % K .q) (sym (sum-ext (K .m) (λ k c. ap (λ (z : ℕ). A K l k * z) (h k c)))) ∙ S .target l b;
@@ -395,7 +395,7 @@ module _ (key x y : List ℕ) where
         go accepted e z = forked-of (clean _ e)
         go (refused n) e z = absurd z
 
-    forked-pair : enough (keyOf key) l ≡ true → Forked key x y → pair key l x y ≡ finding (keyOf key) (partsOf x) (partsOf y)
+    pub forked-pair : enough (keyOf key) l ≡ true → Forked key x y → pair key l x y ≡ finding (keyOf key) (partsOf x) (partsOf y)
     unfolding pair readOf
     forked-pair h f = ap (λ (v : Verdict). readOf v (finding (keyOf key) (partsOf x) (partsOf y))) (forked-accepted h f)
 

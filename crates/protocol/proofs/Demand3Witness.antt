@@ -4,24 +4,25 @@ use mathlib.Core.Path.{_≡_, sym, ap, _∙_}
 use mathlib.Core.List.{List, _++_}
 use Prim.Native.Nat.{ℕ}
 use Rattle.lists.specs.Check.{accepted, first}
-use Rattle.lists.specs.TestLaws.{Clean, clean, clean-left, clean-right}
-use Rattle.protocol.specs.Key.{Key, keyOf, keyChecks}
+use Rattle.lists.specs.TestLaws.{clean, clean-left, clean-right}
+use Rattle.protocol.specs.Key.{keyOf, keyChecks}
 use Rattle.protocol.specs.Prover.{checks7}
 use Rattle.protocol.specs.Transcript.{Parts, partsOf, transcript}
 use Rattle.protocol.specs.Honest.{honestParts}
 use Rattle.protocol.specs.Demand3.{Forked}
-use Rattle.protocol.proofs.KeyFacts.{Good, good}
+use Rattle.protocol.specs.Accepts.{GoodKey}
+use Rattle.protocol.proofs.KeyFacts.{good}
 use Rattle.protocol.proofs.Header.{parts-back}
 use Rattle.protocol.proofs.HonestParts.{valid}
 use Rattle.protocol.proofs.Acceptance.{small, honest-accepted}
 
 -- The parts of an honest transcript are those that it was made of.
-honest-parts : (key seeds secret E κ L hid : List ℕ)
+pub honest-parts : (key seeds secret E κ L hid : List ℕ)
     → first (keyChecks (keyOf key) key ++ checks7 (keyOf key) seeds secret E κ L hid) ≡ accepted
     → partsOf (transcript (honestParts (keyOf key) seeds secret E κ L hid)) ≡ honestParts (keyOf key) seeds secret E κ L hid
 honest-parts key seeds secret E κ L hid e =
     let c = clean (keyChecks (keyOf key) key ++ checks7 (keyOf key) seeds secret E κ L hid) e in
-    let G : Good (keyOf key) = good (keyOf key) key (clean-left (keyChecks (keyOf key) key) (checks7 (keyOf key) seeds secret E κ L hid) c) in
+    let G : GoodKey (keyOf key) = good (keyOf key) key (clean-left (keyChecks (keyOf key) key) (checks7 (keyOf key) seeds secret E κ L hid) c) in
     parts-back (honestParts (keyOf key) seeds secret E κ L hid)
     (small (keyOf key) seeds secret E κ L hid G (valid (keyOf key) seeds secret E κ L hid G (clean-right (keyChecks (keyOf key) key) _ c)))
 

@@ -11,7 +11,7 @@ use borrow.Author.Tests.{lt-ltb, le-ltb, le-leb, eq-eqb, ltb-true, leb-true, eqb
 use Rattle.lists.specs.Index.{pick, cat, every, same}
 use Rattle.lists.specs.Bytes.{num}
 use Rattle.lists.specs.Check.{Check, accepted, first}
-use Rattle.lists.specs.TestLaws.{not-of-true, every-all, every-at, each-holds, same-of, clean-append, cat-clean, same-eq, Holds, holds-each, Clean, clean, clean-left, clean-right, clean-cat, cleared, first-more, pick-false}
+use Rattle.lists.specs.TestLaws.{not-of-true, every-all, every-at, each-holds, same-of, clean-append, cat-clean, same-eq, holds-each, Clean, clean, clean-left, clean-right, clean-cat, cleared, first-more, pick-false}
 use Rattle.lists.specs.CatLaws.{part-length}
 use Rattle.numbers.specs.Sum.{sum, sum-suc, sum-grows}
 use Rattle.protocol.specs.Key.{Key, entries, keptCount, keyOf, limits, keyChecks}
@@ -20,30 +20,12 @@ use Rattle.protocol.specs.Prover.{opened, goodE, goodHidden}
 use Rattle.protocol.specs.Transcript.{Parts, partAt, partsOf, sizes, goodHeader}
 use Rattle.protocol.specs.Judge.{hidesN, givenCount, given, ΩAt, keptView, goodNumbers, formChecks, executionChecks, hashChecks, partsChecks, runChecks, judge}
 use Rattle.protocol.specs.Accepts.{GoodKey, GoodHeader, GoodParts, GoodValues, Accepts}
+use Rattle.protocol.proofs.KeyFacts.{good}
 
 -- ---- the key
 key-facts : (K : Key) (x : List ℕ) → Clean (keyChecks K x) → (length x ≡ 24 + 4 * entries K) × GoodKey K
-unfolding keyChecks limits
-key-facts K x c = (
-  eqb-true _ _ (not-false _ (c .1 .1 .1 .0)),
-  record {
-    q = record { listed = not-false _ (c .1 .0) };
-    n-least = leb-true _ _ (l .0);
-    n-most = leb-true _ _ (l .1 .0);
-    m-least = leb-true _ _ (l .1 .1 .0);
-    m-most = leb-true _ _ (l .1 .1 .1 .0);
-    n-below = ltb-true _ _ (l .1 .1 .1 .1 .0);
-    N = record { listed = l .1 .1 .1 .1 .1 .0 };
-    M-least = leb-true _ _ (l .1 .1 .1 .1 .1 .1 .0);
-    M-most = leb-true _ _ (l .1 .1 .1 .1 .1 .1 .1 .0);
-    τ-least = leb-true _ _ (l .1 .1 .1 .1 .1 .1 .1 .1 .0);
-    τ-below = ltb-true _ _ (l .1 .1 .1 .1 .1 .1 .1 .1 .1 .0);
-    entry-lt = λ j h. ltb-true _ _ (every-at _ _ (not-false _ (c .1 .1 .1 .1 .0)) j h);
-  },
-)
-  where
-    l : Holds (limits K)
-    l = holds-each (limits K) (not-false _ (c .1 .1 .0))
+unfolding keyChecks
+key-facts K x c = (eqb-true _ _ (not-false _ (c .1 .1 .1 .0)), good K x c)
 
 -- ---- the header and the parts
 header-facts : (K : Key) (x : List ℕ) → goodHeader K x ≡ true → GoodHeader K x

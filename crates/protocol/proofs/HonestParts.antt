@@ -1,6 +1,6 @@
 -- What the judge reads from the parts of an honest transcript is what the prover put there.
 -- Assumes nothing.
-use Prim.Native.Nat.{ℕ, _+_, _*_, _-_, _<_, _≤_}
+use Prim.Native.Nat.{ℕ, _+_, _*_, _<_, _≤_}
 use mathlib.Core.Path.{_≡_, refl, sym, _∙_, ap}
 use mathlib.Core.Bool.{true, false}
 use mathlib.Core.List.{List, [], _++_, append-assoc, append-nil}
@@ -25,7 +25,8 @@ use Rattle.protocol.specs.Prover.{opened, rank, place, kept, hiddenOf, m
 use Rattle.protocol.specs.Transcript.{Parts}
 use Rattle.protocol.specs.Honest.{honestParts}
 use Rattle.protocol.specs.Judge.{hidden, givenCount, replySize, replyAt, given, masterAt, ΩAt, hπAt, keptView}
-use Rattle.protocol.proofs.KeyFacts.{Good, depth-N, t-lt}
+use Rattle.protocol.specs.Accepts.{GoodKey}
+use Rattle.protocol.proofs.KeyFacts.{depth-N, t-lt}
 use Rattle.protocol.proofs.Opened.{opened-count, kept-count}
 use Rattle.protocol.proofs.HonestSum.{dealt-whole, dealt-dN-lt, dealt-sN-lt}
 use Rattle.protocol.proofs.Sees.{Sees}
@@ -42,7 +43,7 @@ pub record Valid (K : Key) (seeds secret E κ L hid : List ℕ) : Type 0 where
   pub solution : Solves (K .q) (K .n) (K .m) (A K) (t K) (λ k. getD secret k 0)
 
 -- A·x = t and x binary, as the tests say it.
-pub solved : (K : Key) → Good K → (x : ℕ → ℕ) → binary K x ≡ true → solves K x ≡ true → Solves (K .q) (K .n) (K .m) (A K) (t K) x
+pub solved : (K : Key) → GoodKey K → (x : ℕ → ℕ) → binary K x ≡ true → solves K x ≡ true → Solves (K .q) (K .n) (K .m) (A K) (t K) x
 unfolding binary solves
 solved K G x b c =
     record {
@@ -52,7 +53,7 @@ solved K G x b c =
           rw (mod-eq-of-lt {n = x k} {m = K .q} (omega (arith, q-least (G .q)))) small;
     }
 
-pub valid : (K : Key) (seeds secret E κ L hid : List ℕ) → Good K → Clean (checks7 K seeds secret E κ L hid) → Valid K seeds secret E κ L hid
+pub valid : (K : Key) (seeds secret E κ L hid : List ℕ) → GoodKey K → Clean (checks7 K seeds secret E κ L hid) → Valid K seeds secret E κ L hid
 unfolding checks7 checks5 statementChecks
 valid K seeds secret E κ L hid G c =
     let l = holds-each _ (not-false _ (c .0)) in
@@ -65,7 +66,7 @@ valid K seeds secret E κ L hid G c =
       solution = solved K G (λ k. getD secret k 0) (not-false _ (c .1 .1 .0)) (not-false _ (c .1 .1 .1 .0));
     }
 
-module _ (K : Key) (seeds secret E κ L hid : List ℕ) (G : Good K) (I : Valid K seeds secret E κ L hid) where
+module _ (K : Key) (seeds secret E κ L hid : List ℕ) (G : GoodKey K) (I : Valid K seeds secret E κ L hid) where
   abbrev P : Parts
   P = honestParts K seeds secret E κ L hid
 

@@ -12,14 +12,8 @@ use Rattle.numbers.specs.Mod.{Cong, cong-refl, cong-trans, cong-eq, cong-mul, s
 use Rattle.numbers.specs.Sum.{sum, sum-ext, sum-cong, last-share}
 use Rattle.numbers.specs.Inverse.{Member, qs, Ns, q-positive, N-least}
 use Rattle.numbers.specs.Output.{out, out-lt, alphaOf, join, Solves, honest}
-use Rattle.streams.specs.Streams.{draw-lt}
 use Rattle.protocol.specs.Key.{Key, A, t}
-use Rattle.protocol.specs.Shares.{sq, View, isHidden, share, b, d, s, α, αsum, Γin, Γ, H, run, o, dealt}
-
--- Every drawn number is below q.
-pub share-lt : (K : Key) → 0 < K .q → (seed : List ℕ) (i j : ℕ) → share K seed i j < K .q
-unfolding share
-share-lt K h seed i j = draw-lt h seed 2 _ j
+use Rattle.protocol.specs.Shares.{sq, View, isHidden, b, d, s, α, αsum, Γin, Γ, H, run, o, dealt}
 
 -- A view in which nobody is hidden.
 module _ (K : Key) (v : View) (whole : v .hid ≡ K .N) where

@@ -1,6 +1,6 @@
 -- What a key that is not refused satisfies.
 -- Assumes nothing.
-use Prim.Native.Nat.{ℕ, suc, _-_, _^_, _<_, _≤_}
+use Prim.Native.Nat.{ℕ, suc, _^_, _<_, _≤_}
 use mathlib.Core.Path.{_≡_, refl}
 use mathlib.Core.List.{List}
 use native.Mathlib.Omega.{arith}
@@ -8,24 +8,11 @@ use borrow.Author.Tests.{ltb-true, leb-true, not-false}
 use lib.Dec.{ltb, leb}
 use Rattle.lists.specs.Index.{count}
 use Rattle.lists.specs.TestLaws.{Clean, Holds, every-at, holds-each}
-use Rattle.numbers.specs.Inverse.{Member, each, qs, Ns}
+use Rattle.numbers.specs.Inverse.{Member, each, Ns}
 use Rattle.protocol.specs.Key.{Key, t, entries, depth, limits, keyChecks}
+use Rattle.protocol.specs.Accepts.{GoodKey}
 
-pub record Good (K : Key) : Type 0 where
-  pub q : Member (K .q) qs
-  pub N : Member (K .N) Ns
-  pub n-least : 1 ≤ K .n
-  pub n-most : K .n ≤ 32
-  pub m-least : 2 ≤ K .m
-  pub m-most : K .m ≤ 128
-  pub n-below : K .n < K .m
-  pub M-least : 2 ≤ K .M
-  pub M-most : K .M ≤ 32
-  pub τ-least : 1 ≤ K .τ
-  pub τ-below : K .τ < K .M
-  pub entry-lt : (j : ℕ) → j < entries K → K .entry j < K .q
-
-pub good : (K : Key) (x : List ℕ) → Clean (keyChecks K x) → Good K
+pub good : (K : Key) (x : List ℕ) → Clean (keyChecks K x) → GoodKey K
 unfolding keyChecks limits
 good K x c =
     let l : Holds (limits K) = holds-each (limits K) (not-false _ (c .1 .1 .0)) in
@@ -54,5 +41,5 @@ unfolding depth count
 depth-most K h = each (λ N. count 5 (λ d. leb (2 ^ suc d) N) ≤ 5) Ns h (omega arith, (omega arith, (omega arith, (omega arith, (omega arith, tt)))))
 
 -- Entries of t.
-pub t-lt : (K : Key) → Good K → (l : ℕ) → l < K .n → t K l < K .q
+pub t-lt : (K : Key) → GoodKey K → (l : ℕ) → l < K .n → t K l < K .q
 t-lt K G l h = G .entry-lt _ (omega arith)

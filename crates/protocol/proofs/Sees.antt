@@ -59,12 +59,12 @@ module _ (K : Key) (L : List ℕ) (p w : View) (S : Sees K L p w) where
     sees-d k y =
         last i _ _ _ _ (λ a. S .dN (not-last i other a) k y) (ap (λ x. share K x i (K .m + k)) (S .seed i h other))
 
-    sees-s : (k : ℕ) → k < K .m → s K w k i ≡ s K p k i
+    pub sees-s : (k : ℕ) → k < K .m → s K w k i ≡ s K p k i
     unfolding s
     sees-s k y =
         last i _ _ _ _ (λ a. S .sN (not-last i other a) k y) (ap (λ x. share K x i (2 * K .m + k)) (S .seed i h other))
 
-    sees-Γin : Γin K w i ≡ Γin K p i
+    pub sees-Γin : Γin K w i ≡ Γin K p i
     unfolding Γin
     sees-Γin =
         ap₂ (λ x y. input 3 (suc x) (suc i) y) (S .ex)

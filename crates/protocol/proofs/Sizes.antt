@@ -1,6 +1,6 @@
 -- The lengths of the four messages and of their parts.
 -- Assumes nothing.
-use Prim.Native.Nat.{ℕ, suc, _+_, _*_, _-_, _<_, _≤_}
+use Prim.Native.Nat.{ℕ, suc, _+_, _*_, _<_, _≤_}
 use mathlib.Core.Path.{_≡_, refl, sym, _∙_, ap}
 use mathlib.Core.Bool.{Bool, true, false, not}
 use mathlib.Core.List.{List, [], _++_}
@@ -19,7 +19,8 @@ use Rattle.tree.specs.TreeLaws.{opening-length}
 use Rattle.protocol.specs.Key.{Key, depth, keptCount}
 use Rattle.protocol.specs.Shares.{H, View, α, Γ, Γin, Ωin, o}
 use Rattle.protocol.specs.Prover.{opened, place, kept, hiddenOf, reply, master, proverView, hπin, message1, message3, message5, message7, goodE, goodHidden}
-use Rattle.protocol.proofs.KeyFacts.{Good, depth-most}
+use Rattle.protocol.specs.Accepts.{GoodKey}
+use Rattle.protocol.proofs.KeyFacts.{depth-most}
 use Rattle.protocol.proofs.Opened.{opened-count, kept-count, place-lt}
 use Rattle.protocol.proofs.HonestSum.{Γ-open, dealt-whole}
 
@@ -123,7 +124,7 @@ unfoldable pub repliesBytes : Key → List ℕ → List ℕ → ℕ → ℕ
 repliesBytes K E hidden n = sum n (λ e. pick (opened E e) 0 (replyBytes K (hiddenOf E hidden e)))
 
 -- A reply takes at most 1652 bytes.
-pub reply-most : (K : Key) → Good K → (h : ℕ) → replyBytes K h ≤ 1652
+pub reply-most : (K : Key) → GoodKey K → (h : ℕ) → replyBytes K h ≤ 1652
 unfolding replyBytes
 reply-most K G h = go (eqb (suc h) (K .N))
   where
@@ -131,7 +132,7 @@ reply-most K G h = go (eqb (suc h) (K .N))
     go true = omega (arith, depth-most K (G .N), G .m-most)
     go false = omega (arith, depth-most K (G .N), G .m-most)
 
-pub replies-most : (K : Key) → Good K → (E hidden : List ℕ) → repliesBytes K E hidden (K .M) ≤ K .M * 1652
+pub replies-most : (K : Key) → GoodKey K → (E hidden : List ℕ) → repliesBytes K E hidden (K .M) ≤ K .M * 1652
 unfolding repliesBytes
 replies-most K G E hidden = sum-bound (K .M) 1652 (λ e h. go (opened E e) (reply-most K G (hiddenOf E hidden e)))
   where

@@ -4,14 +4,13 @@ use Prim.Native.Nat.{ℕ, suc, _+_, _*_, _-_, _%_}
 use mathlib.Core.Bool.{Bool, true, false, not}
 use mathlib.Core.List.{List, [], _∷_, _++_}
 use lib.Dec.{ltb, leb, eqb}
-use lib.ListN.{length, drop}
 use Rattle.lists.specs.Tab.{tab}
-use Rattle.lists.specs.Index.{pick, cat, every, least, same, holds}
+use Rattle.lists.specs.Index.{pick, cat, least, same, holds}
 use Rattle.lists.specs.Check.{Check, _⇒_, Verdict, accepted, refused, first}
 use Rattle.numbers.specs.Sum.{sum}
 use Rattle.numbers.specs.Output.{uOf, vOf}
 use Rattle.protocol.specs.Key.{Key, A, t, entries, keyOf, keyChecks}
-use Rattle.protocol.specs.Shares.{View, sq, isHidden, isN, s, b, d, Γin, hin, Ωin, Πin, Ψin}
+use Rattle.protocol.specs.Shares.{View, sq, isHidden, s, b, d, Γin, hin, Ωin, Πin, Ψin}
 use Rattle.protocol.specs.Prover.{opened, hΓin, hπin, hψin, solves, binary}
 use Rattle.protocol.specs.Transcript.{Parts, partsOf}
 use Rattle.protocol.specs.Judge.{hidden, κ, view, runChecks}

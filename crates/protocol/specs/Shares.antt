@@ -5,9 +5,8 @@ use Prim.Native.Nat.{ℕ, suc, _+_, _*_, _-_, _/_, _%_}
 use mathlib.Core.Bool.{Bool}
 use mathlib.Core.List.{List, [], _++_}
 use lib.Dec.{eqb}
-use lib.ListN.{length}
 use Rattle.lists.specs.Index.{pick, cat}
-use Rattle.lists.specs.Bytes.{le4, nums}
+use Rattle.lists.specs.Bytes.{nums}
 use Rattle.numbers.specs.Mod.{sub}
 use Rattle.numbers.specs.Sum.{sum}
 use Rattle.numbers.specs.Output.{Run, out}

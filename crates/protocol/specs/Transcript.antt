@@ -1,14 +1,14 @@
 -- Document 01, Transcript: seven pairs of offset and length, then the parts without gaps from byte 56 to the file's end.
 -- Assumes nothing.
-use Prim.Native.Nat.{ℕ, suc, _+_, _*_, _-_}
+use Prim.Native.Nat.{ℕ, _+_, _*_}
 use mathlib.Core.Bool.{Bool}
 use mathlib.Core.List.{List, [], _∷_, _++_}
 use lib.Dec.{leb, eqb}
 use lib.ListN.{length, getD}
-use Rattle.lists.specs.Index.{pick, cat, every, part, holds}
+use Rattle.lists.specs.Index.{cat, every, part, holds}
 use Rattle.lists.specs.Bytes.{le4, num}
 use Rattle.numbers.specs.Sum.{sum}
-use Rattle.protocol.specs.Key.{Key, depth, keptCount}
+use Rattle.protocol.specs.Key.{Key, keptCount}
 
 -- 1. hΓ. 2. E, one byte each. 3. The master seeds of E, Ω of the kept, hπ. 4. L. 5. hψ. 6. The hidden list. 7. K and the replies.
 pub record Parts : Type 0 where

@@ -3,7 +3,7 @@ ghost use Prim.Native.Nat.{ℕ};
 ghost use mathlib.Core.Path.{_≡_};
 ghost use mathlib.Core.Logic.{_⊎_};
 ghost use mathlib.Core.List.{List, [], _∷_, _++_};
-ghost use Rattle.lists.specs.Check.{Verdict, accepted, first};
+ghost use Rattle.lists.specs.Check.{accepted, first};
 ghost use Rattle.protocol.specs.Key.{keyOf, keyChecks};
 ghost use Rattle.protocol.specs.Prover.{checks7};
 ghost use Rattle.protocol.specs.Transcript.{transcript};

@@ -3,15 +3,15 @@
 use Prim.Native.Nat.{ℕ, _+_, _*_, _-_, _<_, _≤_}
 use mathlib.Core.Path.{_≡_, refl, sym, _∙_, ap, ap₂}
 use mathlib.Core.Bool.{Bool, true, false, not}
-use mathlib.Core.List.{List, [], _∷_, _++_, append-nil, append-assoc}
+use mathlib.Core.List.{List, [], _∷_, _++_, append-assoc}
 use native.Mathlib.Numerals.{add-one}
 use native.Mathlib.Omega.{arith}
-use lib.ListN.{length, getD, take, drop, length-append, length-drop, take-append-drop, drop-of-length-le}
-use lib.Seq.{drop-drop, take-at, drop-at, take-all}
+use lib.ListN.{length, getD, take, drop}
+use lib.Seq.{drop-drop}
 use borrow.Author.Tests.{eq-eqb, ne-eqb, le-leb, lt-leb, leb-true, eqb-true, not-false}
-use Rattle.lists.specs.Index.{cat, holds, pick, count}
+use Rattle.lists.specs.Written.{Puts, puts-none, puts-some}
+use Rattle.lists.specs.Index.{holds, pick, count}
 use Rattle.lists.specs.Check.{Check, _⇒_, Verdict, accepted, refused, first}
-use Rattle.lists.specs.CatLaws.{cat-more}
 use Rattle.lists.specs.TestLaws.{first-stops, first-more, Clean, clean, cleared, clean-left, clean-right, holds-each, count-suc, count-below, count-mono}
 use Rattle.numbers.specs.Sum.{sum}
 use Rattle.refusals.specs.Number.{numberOf, none-applies, Numbered, numbered-append}
@@ -27,7 +27,7 @@ use Rattle.key.specs.declared.Numbers.{Numbers}
 use Rattle.transcript.specs.Replies.{partsWith, length-of}
 use Rattle.prover.specs.Answers.{answerOf}
 use Rattle.prover.specs.declared.Answer.the-variants.{Length, Refused}
-use Rattle.prover.specs.Parts.{SizedInputs, Puts, Built, Inputs}
+use Rattle.prover.specs.Parts.{SizedInputs, Inputs}
 
 -- ---- refusals
 pub refused-is : (v : Verdict) {n : ℕ} → n ≡ numberOf v → (n ≡ 0 → ⊥) → v ≡ refused n
@@ -279,32 +279,6 @@ module _ (K : Key) (seeds secret E κ : List ℕ) where
   secret-long h = eqb-true (length secret) (K .m) (holds-each lengths3 h .1 .0)
 
 -- ---- writing
-pub puts-none : (at : ℕ) (l : List ℕ) → Puts at at [] l l
-puts-none at l = record { long = omega arith; is = rw append-nil (sym (take-append-drop at l)) }
-
-pub puts-some : (at n : ℕ) (ys l : List ℕ) → length ys ≡ n → Puts at (at + n) ys l (take at l ++ (ys ++ drop (at + n - at) (drop at l)))
-puts-some at n ys l h =
-    let z : at + n - at ≡ n = omega arith in
-    record { long = omega arith; is = rw (z, drop-drop n at l) (sym (append-assoc (take at l) ys (drop (at + n) l))) }
-
-pub built-none : (f : ℕ → List ℕ) (l : List ℕ) → Built f 0 0 l l
-unfolding cat
-built-none f l = record { long = refl; is = refl }
-
-pub built-more : {f : ℕ → List ℕ} {x at to : ℕ} {ys l o r : List ℕ} → Built f x at l o → Puts at to ys o r → ys ≡ f x → Built f (x + 1) to l r
-built-more {f} {x} {at} {to} {ys} {l} {o} {r} a b e =
-    record {
-      long = rw (cat-more x f, length-append (cat x f) (f x), ← e, ← a .long) (b .long);
-      is = rw (cat-more x f, ← e, b .is, a .is, take-at (cat x f) (drop at l) at (sym (a .long)), later) refl;
-    }
-  where
-    later : drop to (cat x f ++ drop at l) ≡ drop to l
-    later =
-        rw (b .long) (rw (← drop-drop (length ys) at (cat x f ++ drop at l), drop-at (cat x f) (drop at l) at (sym (a .long))) (drop-drop (length ys) at l))
-
-pub built-all : {f : ℕ → List ℕ} {x n at : ℕ} {l o : List ℕ} → Built f x at l o → x ≡ n → length l ≤ at → o ≡ cat n f
-built-all {f} {x} {n} {at} {l} a e h = a .is ∙ rw (drop-of-length-le l {i = at} h, append-nil) (ap (λ k. cat k f) e)
-
 -- an item that is put where a test holds, or where it fails
 pub put-none : (t : Bool) (ys l : List ℕ) (at : ℕ) → t ≡ false → (Puts at at (pick t ys []) l l) × (at ≡ at + pick t 16 0)
 put-none t ys l at e = rw e (puts-none at l, omega arith)
@@ -393,11 +367,6 @@ module _ (key seeds secret E κ : List ℕ) (size from work entry : ℕ) where
   passed3 = passed (keyOf key) key (checks3 (keyOf key) seeds secret E κ) (message3 (keyOf key) seeds secret E κ) size from work entry
 
 -- a list that is written in two parts
-pub two-parts : (out a b : List ℕ) (mid n : ℕ) → length a ≡ mid → length (drop mid out) ≤ n
-    → take mid (a ++ drop mid out) ++ (b ++ drop n (drop mid (a ++ drop mid out))) ≡ a ++ b
-two-parts out a b mid n h k =
-    rw (take-at a (drop mid out) mid h, drop-at a (drop mid out) mid h, drop-of-length-le (drop mid out) {i = n} k, append-nil) refl
-
 pub opened-room : (K : Key) (E : List ℕ) (M τ w : ℕ) → goodE K E ≡ true → M ≡ K .M → τ ≡ K .τ → w ≡ 16 * τ → w ≡ 16 * count M (opened E)
 opened-room K E M τ w g eM eτ h = h ∙ ap (λ x. 16 * x) (eτ ∙ sym (opened-count K E g) ∙ ap (λ n. count n (opened E)) (sym eM))
 
@@ -423,16 +392,6 @@ ready3 key seeds secret E κ size from work entry {n} {τ} {M} {count} e z eτ e
     let s : count ≡ 16 * keyOf key .τ + 32 * (keyOf key .M - keyOf key .τ) + 32 = ec ∙ ap₂ (λ (x y : ℕ). 16 * x + 32 * (y - x) + 32) eτ eM in
     let l : length (message3 (keyOf key) seeds secret E κ) ≡ count = message3-length (keyOf key) seeds secret E κ (i .seeds-long) (i .good) ∙ sym s in
     record { passes = a; of-key = p .of-key; inputs = i; shares = p .room .shares; is = s; long = l; ends = end-within (p .room) l }
-
-pub both-parts : (out a b : List ℕ) (mid : ℕ) → length a ≡ mid
-    → take mid (a ++ drop mid out) ++ (b ++ drop (length (a ++ drop mid out) - mid) (drop mid (a ++ drop mid out))) ≡ a ++ b
-both-parts out a b mid h = two-parts out a b mid (length (a ++ drop mid out) - mid) h (omega (arith, length-append a (drop mid out)))
-
-pub later-part : (out a : List ℕ) (mid : ℕ) → length a ≡ mid
-    → length (take (length (a ++ drop mid out) - mid) (drop mid (a ++ drop mid out))) ≡ length out - mid
-later-part out a mid h =
-    let n : length (drop mid out) ≤ length (a ++ drop mid out) - mid = omega (arith, length-append a (drop mid out)) in
-    rw (drop-at a (drop mid out) mid h, take-all (length (a ++ drop mid out) - mid) (drop mid out) n) (length-drop mid out)
 
 -- ---- message 5: the verdict
 pub numbered5 : (K : Key) (seeds secret E κ L : List ℕ) → Numbered (checks5 K seeds secret E κ L)

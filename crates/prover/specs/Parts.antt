@@ -1,27 +1,17 @@
 -- What the prover's calls read and write.
 -- Assumes nothing.
-use Prim.Native.Nat.{ℕ, _+_, _*_}
+use Prim.Native.Nat.{ℕ, _*_}
 use mathlib.Core.Path.{_≡_}
-use mathlib.Core.List.{List, _∷_, _++_, []}
-use lib.ListN.{length, take, drop}
+use mathlib.Core.List.{List, _∷_, []}
+use lib.ListN.{length}
 use mathlib.Core.Bool.{Bool, true}
-use Rattle.lists.specs.Index.{cat, holds}
+use Rattle.lists.specs.Index.{holds}
 use Rattle.protocol.specs.Key.{Key}
 use Rattle.protocol.specs.Prover.{sized, goodE}
 
 -- the lengths of the master seeds, the secret and κ
 pub record SizedInputs (m M : ℕ) (seeds secret κ : List ℕ) (r : Bool) : Type 0 where
   pub is : (K : Key) → K .m ≡ m → K .M ≡ M → r ≡ holds (sized seeds (16 * K .M) ∷ sized secret (K .m) ∷ sized κ 16 ∷ [])
-
--- ys stands at a place and ends at `to`, all else is as before
-pub record Puts (at to : ℕ) (ys before after : List ℕ) : Type 0 where
-  pub long : to ≡ at + length ys
-  pub is : after ≡ take at before ++ ys ++ drop to before
-
--- f 0 .. f (x - 1) stand in front
-pub record Built (f : ℕ → List ℕ) (x at : ℕ) (before after : List ℕ) : Type 0 where
-  pub long : at ≡ length (cat x f)
-  pub is : after ≡ cat x f ++ drop at before
 
 -- the inputs of a call that is not refused with 6 or 7
 pub record Inputs (K : Key) (seeds secret E κ : List ℕ) : Type 0 where

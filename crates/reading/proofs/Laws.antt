@@ -14,8 +14,7 @@ use lib.ListN.{length, getD, take, drop, length-append, length-drop, drop-of-len
 use lib.Seq.{length-take-le, take-at}
 use Rattle.lists.specs.Tab.{tab, tab-length}
 use Rattle.lists.specs.Index.{pick, every, holds}
-use Rattle.lists.specs.TestLaws.{least-found, least-none, every-next, every-stops, every-at, pick-true, pick-false, holds-each, Holds}
-use Rattle.lists.specs.ReadingExtra.{holds-fails}
+use Rattle.lists.specs.TestLaws.{least-found, least-none, every-next, every-stops, every-at, pick-true, pick-false, holds-each, Holds, holds-fails}
 use Rattle.numbers.specs.Mod.{sub, sub-below}
 use Rattle.numbers.specs.Sum.{sum}
 use Rattle.numbers.specs.Output.{uOf, vOf}

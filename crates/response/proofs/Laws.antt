@@ -10,18 +10,19 @@ use borrow.Author.Tests.{eq-eqb, ne-eqb}
 use lib.Dec.{eqb}
 use lib.ListN.{length, getD, take, drop, drop-of-length-le, length-append, length-drop, List·getD-append}
 use lib.Seq.{take-at, drop-at, drop-drop, take-all}
+use Rattle.lists.specs.Written.{two-parts}
 use Rattle.lists.specs.Tab.{tab, tab-at, tab-length, Filling}
 use Rattle.lists.specs.Index.{pick, part}
 use Rattle.lists.specs.Bytes.{le4, words, nums}
-use Rattle.lists.specs.CatLaws.{nums-zero, nums-more, nums-length, nums-ext, nums-split, part-length}
+use Rattle.lists.specs.CatLaws.{nums-ext, nums-split, part-length}
 use Rattle.lists.specs.TestLaws.{pick-true, pick-false}
 use Rattle.numbers.specs.Mod.{sub, sub-lt, sub-is, sub-cong, cong-trans, cong-sym, cong-eq, cong-mod, cong-same}
-use Rattle.numbers.specs.Sum.{sum, sum-ext, sum-same, sum-cong, sum-add, sum-mul}
+use Rattle.numbers.specs.Sum.{sum, sum-same, sum-cong, sum-add, sum-mul}
 use Rattle.tree.specs.Tree.{opening}
 use Rattle.protocol.specs.Key.{Key, depth}
 use Rattle.protocol.specs.Shares.{View, b, d, s, α, αsum, o, Γ, dealt}
 use Rattle.protocol.specs.Prover.{reply}
-use Rattle.execution.specs.Shown.{Sized, Holds, Seeded, placeOf}
+use Rattle.execution.specs.Shown.{Sized, Seeded, placeOf}
 use Rattle.execution.specs.Prepared.{Dealt, lastCount}
 use Rattle.execution.proofs.Laws.{inside}
 use Rattle.views.specs.Seen.{ForH}
@@ -94,35 +95,6 @@ pub fills : (xs before after : List ℕ) (n : ℕ) → length before ≡ n → a
 fills xs before after n long is =
     is ∙ (ap (λ (x : List ℕ). xs ++ x) (drop-of-length-le before {i = n} (omega (arith, long))) ∙ append-nil xs)
 
--- ---- writing
--- the first k numbers of a list of bytes are f's
-pub record Wrote (f : ℕ → ℕ) (k : ℕ) (before after : List ℕ) : Type 0 where
-  pub long : length after ≡ length before
-  pub is : after ≡ nums k f ++ drop (4 * k) before
-
-pub wrote-none : (f : ℕ → ℕ) (l : List ℕ) → Wrote f 0 l l
-wrote-none f l = record { long = refl; is = rw (nums-zero f) refl }
-
-pub wrote-more : {f : ℕ → ℕ} {k x : ℕ} {l o ys : List ℕ} → Wrote f k l o → 4 * k + 4 ≤ length l → ys ≡ le4 x → x ≡ f k
-    → Wrote f (k + 1) l (take (4 * k) o ++ (ys ++ drop (4 * k + 4 - 4 * k) (drop (4 * k) o)))
-wrote-more {f} {k} {x} {l} {o} {ys} a room e h =
-    record {
-      long = ap length whole ∙ (length-append (nums (k + 1) f) (drop (4 * (k + 1)) l) ∙ omega (arith, nums-length (k + 1) f, length-drop (4 * (k + 1)) l));
-      is = whole;
-    }
-  where
-    whole : take (4 * k) o ++ (ys ++ drop (4 * k + 4 - 4 * k) (drop (4 * k) o)) ≡ nums (k + 1) f ++ drop (4 * (k + 1)) l
-    whole =
-        let z : 4 * k + 4 - 4 * k ≡ 4 = omega arith in
-        let w : 4 * (k + 1) ≡ 4 * k + 4 = omega arith in
-        rw (a .is, take-at (nums k f) (drop (4 * k) l) (4 * k) (nums-length k f), drop-at (nums k f) (drop (4 * k) l) (4 * k) (nums-length k f), z, w, drop-drop 4 (4 * k) l, nums-more k f, e, h)
-        (sym (append-assoc (nums k f) (le4 (f k)) (drop (4 * k + 4) l)))
-
-pub wrote-all : {f : ℕ → ℕ} {k n : ℕ} {l o : List ℕ} → Wrote f k l o → k ≡ n → length l ≡ 4 * n → o ≡ nums n f
-wrote-all {f} {k} {n} {l} {o} a e h =
-    let all : length l ≤ 4 * k = omega arith in
-    a .is ∙ rw (drop-of-length-le l {i = 4 * k} all, append-nil, e) refl
-
 -- an entry of a table that stands in front
 pub front-at : (n : ℕ) (f : ℕ → ℕ) (ys rest : List ℕ) (i : ℕ) → i < n → ys ≡ tab n f → getD (ys ++ rest) i 0 ≡ f i
 front-at n f ys rest i h e = rw e (List·getD-append (tab n f) rest 0 i (rw (tab-length n f) h) ∙ tab-at n f i h)
@@ -134,10 +106,6 @@ second-part out a c x y h =
     let z : x + y - x ≡ y = omega arith in
     rw (take-at a (drop x out) x h, drop-at a (drop x out) x h, z, drop-drop y x out) (sym (append-assoc a c (drop (x + y) out)))
 
-last-part : (out xs c : List ℕ) (z n : ℕ) → length xs ≡ z → length (drop z out) ≤ n
-    → take z (xs ++ drop z out) ++ (c ++ drop n (drop z (xs ++ drop z out))) ≡ xs ++ c
-last-part out xs c z n h k = rw (take-at xs (drop z out) z h, drop-at xs (drop z out) z h, drop-of-length-le (drop z out) {i = n} k, append-nil) refl
-
 rest-long : (out xs : List ℕ) (z : ℕ) → length xs ≡ z → length (drop z out) ≤ length (xs ++ drop z out) - z
 rest-long out xs z h = omega (arith, length-append xs (drop z out))
 
@@ -145,7 +113,7 @@ join-part : (out a c e : List ℕ) (x y n : ℕ) → length a ≡ x → length c
     → take (x + y) o ++ (e ++ drop n (drop (x + y) o)) ≡ (a ++ c) ++ e
 join-part out a c e x y n la lc o is en =
     let both : length (a ++ c) ≡ x + y = length-append a c ∙ omega arith in
-    rw (is) (last-part out (a ++ c) e (x + y) n both (omega (arith, rest-long out (a ++ c) (x + y) both, en, ap length is)))
+    rw (is) (two-parts out (a ++ c) e (x + y) n both (omega (arith, rest-long out (a ++ c) (x + y) both, en, ap length is)))
 
 pub three-parts : (out a c e : List ℕ) (x y : ℕ) {a' c' e' : List ℕ} → length a ≡ x → length c ≡ y → a ≡ a' → c ≡ c' → e ≡ e'
     → (let p = take x (a ++ drop x out) ++ (c ++ drop (x + y - x) (drop x (a ++ drop x out))) in

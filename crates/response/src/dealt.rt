@@ -1,8 +1,7 @@
 // The outputs of an execution that the prover has dealt.
 
 ghost use mathlib.Core.Path.{_≡_};
-ghost use mathlib.Core.List.{List};
-ghost use Prim.Native.Nat.{ℕ, _+_, _*_, _<_, _≤_};
+ghost use Prim.Native.Nat.{_+_, _*_, _<_, _≤_};
 ghost use lib.ListN.{length};
 ghost use Rattle.lists.specs.Tab.{tab, Filling};
 ghost use Rattle.numbers.specs.Inverse.{Member, Ns};

@@ -1,10 +1,9 @@
 // The reply of a kept execution in part 7: its opened seeds, and what the verifier cannot compute of the hidden party.
 
 ghost use mathlib.Core.Path.{_≡_};
-ghost use mathlib.Core.List.{List};
-ghost use Prim.Native.Nat.{ℕ, _+_, _*_, _^_, _<_, _≤_};
+ghost use Prim.Native.Nat.{_+_, _*_, _^_, _<_, _≤_};
 ghost use lib.ListN.{length};
-ghost use Rattle.lists.specs.Bytes.{words, nums};
+ghost use Rattle.lists.specs.Bytes.{nums};
 ghost use Rattle.numbers.specs.Inverse.{Member, Ns};
 ghost use Rattle.protocol.specs.Key.{Key, depth as depthOf};
 ghost use Rattle.protocol.specs.Shares.{View, o};
@@ -52,20 +51,6 @@ fn put_alphas(q: u32, m: usize, parties: usize, i: usize, work: &[u32], out: &mu
     }
 }
 
-// The numbers of a list, four bytes each.
-fn put_words(xs: &[u32], out: &mut [u8])
-    requires { ⌜ length (now out) ≡ 4 * length (now xs) ⌝ }
-    ensures { λ _. ⌜ now (out .exit) ≡ words (now (xs .entry)) ⌝ }
-{
-    let mut k = 0;
-    while k < xs.len() {
-        let from = 4 * k;
-        let to = from + 4;
-        put32(xs[k], &mut out[from..to]);
-        k += 1;
-    }
-}
-
 // d(1) .. d(m) and s(1) .. s(m) of party N, unless it is hidden.
 fn put_last(m: usize, parties: usize, hidden: usize, work: &[u32], out: &mut [u8])
     requires { ⌜ (m ≤ 128) × (parties ≤ 32) ⌝ }
@@ -79,7 +64,7 @@ fn put_last(m: usize, parties: usize, hidden: usize, work: &[u32], out: &mut [u8
     }
     let from = 3 * m * (parties - 1) + m;
     let to = from + 2 * m;
-    put_words(&work[from..to], out);
+    bytes4::put_numbers(&work[from..to], out);
 }
 
 // The numbers of a reply: the hidden party's α and o, and party N's d and s.

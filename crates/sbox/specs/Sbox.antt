@@ -4,7 +4,7 @@ use Prim.Native.Nat.{ℕ, zero, suc, _+_, _*_, _/_, _%_, _^_}
 use lib.Bits.{bitXor}
 use Rattle.gf.specs.Field.{inverse}
 
--- FIPS 197, 2.1: bit i of a byte, bit 0 being the lowest.
+-- FIPS 197, 3.2: bit i of a byte, bit 0 being the lowest.
 unfoldable pub bit : ℕ → ℕ → ℕ
 bit b i = b / 2 ^ i % 2
 
@@ -13,7 +13,7 @@ unfoldable pub fromBits : ℕ → (ℕ → ℕ) → ℕ
 fromBits zero f = 0
 fromBits (suc n) f = f n * 2 ^ n + fromBits n f
 
--- FIPS 197, 5.1.1, equation 5.2: bit i of the affine transformation of b, with the constant c = {63}.
+-- FIPS 197, 5.1.1: bit i of the affine transformation of b, with the constant c = {63}.
 unfoldable pub affineBit : ℕ → ℕ → ℕ
 affineBit b i =
     bitXor

@@ -3,13 +3,13 @@ use mathlib.Core.Path.{_≡_, refl, sym, ap, _∙_}
 use mathlib.Core.List.{List, [], _∷_, _++_, append-assoc, append-nil}
 use Prim.Native.Nat.{ℕ, zero, suc, _+_, _-_, _*_, _/_, _%_, _^_, _<_, _≤_}
 use native.Mathlib.Nat.{add-zero, mod-add-mod}
-use native.Mathlib.Numerals.{add-one, add-two, add-three, add-four}
+use native.Mathlib.Numerals.{add-one}
 use native.Mathlib.Omega.{arith}
-use lib.ListN.{length, getD, take, drop, set, replicate, length-append, length-take, length-drop, length-set, drop-of-length-le, take-append-drop}
+use lib.ListN.{length, getD, take, drop, set, replicate, length-append, length-drop, length-set, drop-of-length-le, take-append-drop}
 use lib.Seq.{take-all, take-append-le, drop-append-le, drop-append-add, take-suc-set, take-suc, length-take-le}
 use Rattle.sha_core.specs.Fips180.{be, compress, absorb, bytes, pad, sha256}
 use Rattle.sha.specs.declared.Sha.{Sha}
-use Rattle.sha.specs.State.{Stands, Fed, fed-join}
+use Rattle.sha.specs.State.{Stands, Fed}
 
 -- the hash value after n blocks does not depend on what follows them
 pub absorb-front : (n : ℕ) (m d : List ℕ) → n * 64 ≤ length m → absorb n (m ++ d) ≡ absorb n m

@@ -1,11 +1,11 @@
 -- Laws of the definitions of FIPS 180-4, in the shape in which the loops meet them. Assumes nothing.
 use mathlib.Core.Path.{_≡_, refl, sym, ap, _∙_}
-use mathlib.Core.List.{List, [], _∷_, _++_}
-use Prim.Native.Nat.{ℕ, zero, suc, _+_, _-_, _*_, _%_, _^_, _<_, _≤_}
+use mathlib.Core.List.{List, [], _∷_}
+use Prim.Native.Nat.{ℕ, zero, suc, _+_, _-_, _%_, _^_, _<_, _≤_}
 use native.Mathlib.Nat.{add-zero, add-suc, mod-add-mod}
 use native.Mathlib.Numerals.{add-one, add-two, add-three, add-four, add-five, add-six, add-seven, add-eight}
 use native.Mathlib.Omega.{arith}
-use lib.ListN.{length, getD, take, drop, set, length-append}
+use lib.ListN.{length, getD, take, set, length-append}
 use lib.Seq.{take-all, take-append-le, take-suc-set, getD-take}
 use borrow.Author.Tests.{lt-ltb, le-ltb}
 use Rattle.sha_core.specs.Fips180.{K, M, W, Ch, Maj, Σ0, Σ1, σ0, σ1, schedule, T1, T2, round, rounds}

@@ -1,25 +1,16 @@
 -- The lengths of the padded message and of the digest. Assumes nothing.
 use mathlib.Core.Path.{_≡_, refl}
-use mathlib.Core.List.{List, [], _∷_, _++_}
-use Prim.Native.Nat.{ℕ, zero, suc, _+_, _*_, _/_, _%_}
+use mathlib.Core.List.{List}
+use Prim.Native.Nat.{ℕ, zero, suc, _*_, _/_}
 use native.Mathlib.Numerals.{add-one}
 use native.Mathlib.Omega.{arith}
-use lib.ListN.{length, length-append, length-replicate, getD, replicate}
-use Rattle.sha_core.specs.Fips180.{be, zeros, pad, bytes, sha256}
+use lib.ListN.{length, length-append, getD}
+use Rattle.sha_core.specs.Fips180.{be, bytes, sha256}
 
 pub be-length : (n x : ℕ) → length (be n x) ≡ n
 unfolding be
 be-length zero x = refl
 be-length (suc n) x = rw (length-append, be-length n (x / 256)) (add-one n)
-
--- FIPS 180-4, 5.1.1: a padded message is whole blocks
-pub pad-whole : (m : List ℕ) → length (pad m) % 64 ≡ 0
-unfolding pad
-pad-whole m =
-    let a = length-append (m ++ (0x80 ∷ replicate (zeros (length m)) 0)) (be 8 (length m * 8)) in
-    let b = length-append m (0x80 ∷ replicate (zeros (length m)) 0) in
-    let c = length-replicate {A = ℕ} (zeros (length m)) 0 in
-    omega (arith, a, b, c, be-length 8 (length m * 8))
 
 pub bytes-length : (n : ℕ) (h : List ℕ) → length (bytes n h) ≡ 4 * n
 unfolding bytes

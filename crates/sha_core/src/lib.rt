@@ -3,8 +3,9 @@ ghost use mathlib.Core.Path.{_≡_};
 ghost use mathlib.Core.List.{List};
 ghost use Prim.Native.Nat.{ℕ, _+_, _*_, _%_, _^_, _<_, _≤_};
 ghost use lib.ListN.{length, getD, take};
+ghost use Rattle.sha_core.specs.Examples.{abc, abcDigest, letters, lettersDigest};
 ghost use Rattle.sha_core.specs.Filled.{Filled};
-ghost use Rattle.sha_core.specs.Fips180.{K, Ch, Maj, Σ0, Σ1, σ0, σ1, W, schedule, round, rounds, added, compress};
+ghost use Rattle.sha_core.specs.Fips180.{K, Ch, Maj, Σ0, Σ1, σ0, σ1, W, schedule, round, rounds, added, compress, sha256};
 use std::num::wrapping_add_u32;
 
 const K: [u32; 64] = [
@@ -246,3 +247,8 @@ pub fn compress_block(k: &[u32; 64], h: [u32; 8], b: &[u8]) -> [u32; 8]
     let v = run(k, b, h);
     add_all(v, h)
 }
+
+// NIST's examples of one block and of two, of the definition itself.
+pub fn nist_examples()
+    ensures { λ _. ⌜ (sha256 abc ≡ abcDigest) × (sha256 letters ≡ lettersDigest) ⌝ }
+{}

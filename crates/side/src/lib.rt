@@ -33,7 +33,7 @@ fn reply_place(k: Numbers, e: usize, run: &[u8]) -> usize
     let s2 = part_start(k, 2);
     let s5 = part_start(k, 5);
     let s6 = part_start(k, 6);
-    s6 + fork::reply_from(k, &run[s1..s2], &run[s5..s6], e)
+    s6 + transcript::reply_start(k, &run[s1..s2], &run[s5..s6], e)
 }
 
 // How many bytes the reply of kept execution e has.

@@ -1,8 +1,8 @@
 -- Steps of the proofs of this crate. Assumes nothing.
 use Prim.Native.Nat.{ℕ, _+_, _*_, _-_, _≤_, _<_}
-use mathlib.Core.Path.{_≡_, sym, _∙_}
+use mathlib.Core.Path.{_≡_, sym, ap, _∙_}
 use mathlib.Core.Bool.{Bool, true, false}
-use mathlib.Core.List.{List}
+use mathlib.Core.List.{List, []}
 use native.Mathlib.Numerals.{add-one}
 use native.Mathlib.Omega.{arith}
 use lib.Dec.{eqb}
@@ -12,15 +12,17 @@ use borrow.Author.Tests.{le-leb, lt-leb, eq-eqb, ne-eqb}
 use Rattle.lists.specs.Index.{every}
 use Rattle.lists.specs.Bytes.{num}
 use Rattle.lists.specs.Check.{first}
-use Rattle.lists.specs.TestLaws.{each-holds}
-use Rattle.lists.specs.ReadingExtra.{holds-fails}
-use Rattle.numbers.specs.Sum.{sum}
+use Rattle.lists.specs.TestLaws.{each-holds, holds-fails}
+use Rattle.numbers.specs.Sum.{sum, sum-ext}
 use Rattle.refusals.specs.Number.{numberOf}
 use Rattle.protocol.specs.Key.{Key}
 use Rattle.protocol.specs.Prover.{goodE, goodHidden}
 use Rattle.protocol.specs.Transcript.{Parts, sizes, goodHeader}
 use Rattle.protocol.specs.Judge.{replySize, goodNumbers, formChecks}
+use Rattle.key.specs.declared.Numbers.{Numbers}
+use Rattle.key.specs.Numbers.{Of, keyWith}
 use Rattle.transcript.specs.Layout.{startOf, start-next}
+use Rattle.transcript.specs.Replies.{partsWith, size-of}
 
 pub start-more : (K : Key) (j at size : ℕ) → at ≡ startOf K j → size ≡ getD (sizes K) j 0 → at + size ≡ startOf K (j + 1)
 start-more K j at size e h = rw (e, h, add-one) (sym (start-next K j))
@@ -87,3 +89,8 @@ module _ (K : Key) (P : Parts) where
         pub form-0 : goodNumbers K P ≡ true → Number 0
         unfolding formChecks first
         form-0 e = rw (opened, hidden, eq-eqb (length (P .p7)) (16 + sum (K .M) (replySize K P)) long, e)
+
+-- Where a reply begins is a matter of the key's numbers, of E and of the hidden list.
+pub from-of : (k : Numbers) (E h : List ℕ) (e : ℕ) {at : ℕ} → at ≡ 16 + sum e (replySize (keyWith k []) (partsWith E h []))
+    → (K : Key) (P : Parts) → Of k K → P .p2 ≡ E → P .p6 ≡ h → at ≡ 16 + sum e (replySize K P)
+from-of k E h e is K P of a b = is ∙ ap (λ (s : ℕ). 16 + s) (sum-ext e (λ j l. size-of k K of P E h [] a b j))

@@ -8,7 +8,7 @@ use native.Mathlib.Omega.{arith}
 use lib.Dec.{leb, eqb}
 use lib.ListN.{length, getD, take, drop, length-drop}
 use lib.Seq.{length-take-le}
-use borrow.Author.Tests.{leb-true, eqb-true}
+use borrow.Author.Tests.{eqb-true}
 use Rattle.lists.specs.Index.{every}
 use Rattle.lists.specs.Bytes.{num}
 use Rattle.lists.specs.TestLaws.{every-at, Holds, holds-each}
@@ -35,9 +35,6 @@ module _ (K : Key) (x : List ℕ) (good : goodHeader K x ≡ true) where
       ∷ every 7 (λ i. eqb (num x (2 * i)) (56 + sum i (λ j. getD (sizes K) j 0))) ∷ eqb (num x 12 + num x 13) (length x) ∷ [])
   unfolding goodHeader
   tests = holds-each _ good
-
-  pub header-long : 56 ≤ length x
-  header-long = leb-true 56 (length x) (tests .0)
 
   pub size-is : (i : ℕ) → i < 6 → num x (2 * i + 1) ≡ getD (sizes K) i 0
   size-is i h = eqb-true _ _ (every-at 6 (λ i. eqb (num x (2 * i + 1)) (getD (sizes K) i 0)) (tests .1 .0) i h)

@@ -152,24 +152,33 @@ pub fn reply_size(k: Numbers, h: usize) -> usize
     16 * key::depth(k.parties) + 32 + 4 * given_count(k, h)
 }
 
+// Where the reply of execution x begins in part 7.
+pub fn reply_start(k: Numbers, e: &[u8], hidden: &[u8], x: usize) -> usize
+    requires { ⌜ Limits k ⌝ }
+    requires { ⌜ x ≤ k .executions ⌝ }
+    ensures { λ r. ⌜ ((K : Key) (P : Parts) → Of k K → P .p2 ≡ now (e .entry) → P .p6 ≡ now (hidden .entry) → r ≡ 16 + sum x (replySize K P)) ⌝ }
+    ensures { λ r. ⌜ r ≤ 16 + 1652 * x ⌝ }
+{
+    let mut start = 16;
+    let mut kept = 0;
+    let mut j = 0;
+    while j < x {
+        let i = j;
+        j += 1;
+        if !is_opened(e, i) {
+            start += reply_size(k, hidden_at(hidden, kept));
+            kept += 1;
+        }
+    }
+    start
+}
+
 // The length that part 7 has to have.
 pub fn replies_length(k: Numbers, e: &[u8], hidden: &[u8]) -> usize
     requires { ⌜ Limits k ⌝ }
     ensures { λ r. ⌜ r ≡ 16 + sum (k .executions) (replySize (keyWith k []) (partsWith (now (e .entry)) (now (hidden .entry)) [])) ⌝ }
 {
-    let executions = k.executions;
-    let mut length = 16;
-    let mut kept = 0;
-    let mut x = 0;
-    while x < executions {
-        let i = x;
-        x += 1;
-        if !is_opened(e, i) {
-            length += reply_size(k, hidden_at(hidden, kept));
-            kept += 1;
-        }
-    }
-    length
+    reply_start(k, e, hidden, k.executions)
 }
 
 // The first `count` numbers are below q.

@@ -1,9 +1,8 @@
 -- From the parts and rows that the code feeds to the hash inputs of document 01.
 -- Assumes nothing.
-use Prim.Native.Nat.{ℕ, zero, suc, _+_, _*_, _-_, _%_, _<_, _≤_}
+use Prim.Native.Nat.{ℕ, suc, _+_, _*_, _-_, _%_, _<_, _≤_}
 use mathlib.Core.Path.{_≡_, refl, sym, _∙_, ap, ap₂}
-use mathlib.Core.Bool.{Bool, true, false}
-use mathlib.Core.List.{List, [], _∷_, _++_}
+use mathlib.Core.List.{List, [], _++_}
 use native.Mathlib.Numerals.{add-one}
 use native.Mathlib.Omega.{arith}
 use native.Mathlib.Decide.{ℕ-discrete}
@@ -15,16 +14,17 @@ use Rattle.lists.specs.Tab.{tab, tab-at, tab-length, tab-ext, list-is-tab, Fill
 use Rattle.lists.specs.Index.{pick, cat, part}
 use Rattle.lists.specs.Bytes.{words, nums, num}
 use Rattle.lists.specs.CatLaws.{cat-more, cat-ext, nums-ext, words-tab, part-length}
-use Rattle.lists.specs.ReadingExtra.{front-more}
+use Rattle.lists.specs.Written.{front-more}
 use Rattle.numbers.specs.Mod.{sub}
 use Rattle.numbers.specs.Sum.{sum, sum-ext}
 use Rattle.sha_core.specs.Fips180.{sha256}
 use Rattle.streams.specs.Streams.{block}
 use Rattle.sha.specs.State.{Fed, fed-join}
 use Rattle.sha.specs.declared.Sha.{Sha}
-use Rattle.protocol.specs.Key.{Key}
-use Rattle.protocol.specs.Shares.{View, input, b, s, α, αsum, Γin, Γ, hin, Ωin, Πin, o, Ψin}
-use Rattle.execution.specs.Shown.{Sized, Holds, Seeded, placeOf}
+use Rattle.protocol.specs.Key.{Key, depth}
+use Rattle.protocol.specs.Shares.{View, input, b, s, α, αsum, Γin, Γ, hin, Ωin, Πin, o, Ψin, dealt}
+use Rattle.execution.specs.Shown.{Sized, placeOf}
+use Rattle.execution.specs.Prepared.{Opened}
 use Rattle.execution.specs.Lists.{alphaAt}
 use Rattle.execution.proofs.Laws.{inside}
 use Rattle.views.specs.Seen.{gammaOpen, gammaAt, ForH, ForΩ, ForΠ}
@@ -201,3 +201,19 @@ psi-is K v κ L {e} {outs} ex is =
 pub outputs-sum : (K : Key) (v : View) (L : List ℕ) {outs : List ℕ} → outs ≡ tab (K .N) (o K v L)
     → sum (length outs) (λ i. getD outs i 0) ≡ sum (K .N) (o K v L)
 outputs-sum K v L {outs} is = sum-tab (K .N) outs (o K v L) is
+
+-- ---- an execution that is opened by master seed holds what h(e) takes
+pub opened-for-h : {q m N D e : ℕ} {master leaves work : List ℕ} (given : List ℕ) → Opened q m N D master leaves work
+    → (K : Key) (z : ℕ → ℕ) → Sized q m N K → depth K ≡ D → ForH m N N e given leaves work K (dealt K e master z)
+unfolding dealt
+opened-for-h {q} {m} {N} {D} {e} {master} {leaves} {work} given so K z sized deep =
+    record {
+      columns = sized .columns;
+      parties = sized .parties;
+      ex = refl;
+      hidden = sized .parties;
+      Γh = λ h. absurd (omega arith);
+      seeds = so .seeds K e z sized deep;
+      dN = λ _ k h. so .dN K e z sized deep k (omega (arith, sized .columns))
+          ∙ ap₂ (λ (x y : ℕ). getD work (placeOf x (y - 1) (x + k)) 0) (sized .columns) (sized .parties);
+    }

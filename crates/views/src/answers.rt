@@ -1,11 +1,10 @@
 // Π and the sums of α, from the parties' b and s.
 
 ghost use mathlib.Core.Path.{_≡_};
-ghost use mathlib.Core.List.{List, _++_};
-ghost use Prim.Native.Nat.{ℕ, _+_, _*_, _<_, _≤_};
+ghost use mathlib.Core.List.{_++_};
+ghost use Prim.Native.Nat.{_+_, _*_, _<_, _≤_};
 ghost use lib.ListN.{length, getD, take, drop};
 ghost use Rattle.lists.specs.Tab.{tab};
-ghost use Rattle.numbers.specs.Inverse.{Member, qs};
 ghost use Rattle.numbers.specs.Sum.{sum};
 ghost use Rattle.sha_core.specs.Fips180.{sha256};
 ghost use Rattle.protocol.specs.Key.{Key};
@@ -14,6 +13,7 @@ ghost use Rattle.execution.specs.Shown.{Limits};
 ghost use Rattle.execution.specs.Lists.{alphaAt, Reduced};
 ghost use Rattle.views.specs.Seen.{ForΠ};
 use execution::commit;
+use execution::shares;
 
 // α(k, i): given for the hidden party, s - b for the others.
 fn alpha(
@@ -67,23 +67,12 @@ pub fn alpha_row(
     row
 }
 
-// A number of 32 bits as one of 64.
-fn wide(x: u32) -> u64
-    ensures { λ r. ⌜ (r ≡ x) × (r < 4294967296) ⌝ }
-{
-    x as u64
-}
-
 // The sum of a row.
 pub fn total(xs: &[u32]) -> u64
     requires { ⌜ length (now xs) ≤ 32 ⌝ }
     ensures { λ r. ⌜ r ≡ sum (length (now (xs .entry))) (λ i. getD (now (xs .entry)) i 0) ⌝ }
 {
-    let mut sum: u64 = 0;
-    for i in 0..xs.len() {
-        sum += wide(xs[i]);
-    }
-    sum
+    shares::column(xs, 0, 1, xs.len())
 }
 
 // Π: all α(k, i), i running fastest, and block 2e of the seed κ. The sums α(1) .. α(m) go to the front of `sums`.

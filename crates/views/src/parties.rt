@@ -1,8 +1,7 @@
 // h(e) and Ω, from the parties' seeds and numbers.
 
 ghost use mathlib.Core.Path.{_≡_};
-ghost use mathlib.Core.List.{List};
-ghost use Prim.Native.Nat.{ℕ, _+_, _*_, _<_, _≤_};
+ghost use Prim.Native.Nat.{_+_, _*_, _<_, _≤_};
 ghost use lib.ListN.{length};
 ghost use Rattle.sha_core.specs.Fips180.{sha256};
 ghost use Rattle.protocol.specs.Key.{Key};

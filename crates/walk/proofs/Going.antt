@@ -1,22 +1,22 @@
 -- The walk's digests and its first refusal, one execution more and at the end.
 -- Assumes nothing.
-use Prim.Native.Nat.{ℕ, zero, suc, _+_, _*_, _-_, _<_, _≤_}
-use mathlib.Core.Path.{_≡_, refl, sym, _∙_, ap, ap₂, subst}
-use mathlib.Core.Bool.{Bool, true, false, not}
+use Prim.Native.Nat.{ℕ, _+_, _*_, _-_, _<_}
+use mathlib.Core.Path.{_≡_, sym, _∙_, ap, subst}
+use mathlib.Core.Bool.{Bool, true, false}
 use mathlib.Core.Logic.{⊎-elim}
-use mathlib.Core.List.{List, [], _∷_, _++_}
+use mathlib.Core.List.{List, [], _++_}
 use native.Mathlib.Omega.{arith}
 use lib.ListN.{length}
 use Rattle.lists.specs.Index.{pick, cat, count, part}
-use Rattle.lists.specs.Check.{Check, Verdict, accepted, refused, first}
+use Rattle.lists.specs.Check.{Verdict, accepted, refused, first}
 use Rattle.lists.specs.CatLaws.{cat-zero, cat-more}
 use Rattle.lists.specs.TestLaws.{decide, pick-true, pick-false, count-zero, count-hit, count-miss, count-le, first-cat-zero, first-cat-next, first-cat-stops}
-use Rattle.numbers.specs.Sum.{sum, sum-zero}
+use Rattle.numbers.specs.Sum.{sum-zero}
 use Rattle.protocol.specs.Key.{Key, keptCount}
 use Rattle.protocol.specs.Shares.{input}
 use Rattle.protocol.specs.Prover.{opened, rank, kept, hΓin, hπin, hψin, goodE}
 use Rattle.protocol.specs.Transcript.{Parts}
-use Rattle.protocol.specs.Judge.{replySize, κ, view}
+use Rattle.protocol.specs.Judge.{replySize}
 use Rattle.protocol.proofs.Opened.{opened-count}
 use Rattle.refusals.specs.Number.{numberOf}
 use Rattle.walk.specs.Lists.{listsSize}

@@ -1,33 +1,32 @@
 -- One execution of the walk: its bounds, and what the code computes of it is what document 01 says.
 -- Assumes nothing.
-use Prim.Native.Nat.{ℕ, zero, suc, _+_, _*_, _-_, _%_, _<_, _≤_}
-use mathlib.Core.Path.{_≡_, refl, sym, _∙_, ap, ap₂, subst}
+use Prim.Native.Nat.{ℕ, zero, suc, _+_, _*_, _-_, _<_, _≤_}
+use mathlib.Core.Path.{_≡_, sym, _∙_, ap, ap₂, subst}
 use mathlib.Core.Bool.{Bool, true, false, not}
-use mathlib.Core.Logic.{_⊎_, inl, inr, ⊎-elim}
-use mathlib.Core.List.{List, [], _∷_, _++_}
+use mathlib.Core.Logic.{⊎-elim}
+use mathlib.Core.List.{List, [], _∷_}
 use native.Mathlib.Omega.{arith}
 use borrow.Author.Tests.{eqb-true, leb-true, eq-eqb, not-false}
 use lib.Dec.{eqb, leb, ltb}
 use lib.ListN.{length, getD, take, drop}
-use Rattle.lists.specs.Index.{pick, cat, every, count, same, part}
-use Rattle.lists.specs.Check.{Check, _⇒_, Verdict, accepted, refused, first}
+use Rattle.lists.specs.Index.{pick, every, same, part}
+use Rattle.lists.specs.Check.{Check, _⇒_, accepted, first}
 use Rattle.lists.specs.TestLaws.{decide, clash, pick-true, pick-false, every-at, count-hit, count-miss, count-below, count-le, count-mono, count-not, holds-each, first-nil, first-hit, first-miss, not-of-true, not-of-false}
 use Rattle.lists.specs.CatLaws.{part-length}
 use Rattle.numbers.specs.Sum.{sum}
 use Rattle.sha_core.specs.Fips180.{sha256}
-use Rattle.protocol.specs.Key.{Key, depth, keptCount}
-use Rattle.protocol.specs.Shares.{View, hin, Πin, Ψin, Ωin, o, dealt}
+use Rattle.protocol.specs.Key.{Key}
+use Rattle.protocol.specs.Shares.{View, hin, Πin, Ψin, Ωin, dealt}
 use Rattle.protocol.specs.Prover.{opened, rank, place, hiddenOf, goodE, goodHidden}
 use Rattle.protocol.specs.Transcript.{Parts}
 use Rattle.protocol.specs.Judge.{hidden, givenCount, replySize, replyAt, given, κ, masterAt, ΩAt, openedView, keptView, view, goodNumbers, formChecks, executionChecks}
 use Rattle.protocol.proofs.Opened.{opened-count, place-lt}
 use Rattle.protocol.proofs.Sizes.{hidden-length, hidden-lt}
 use Rattle.refusals.specs.Number.{numberOf, none-applies}
-use Rattle.execution.specs.Shown.{Sized}
 use Rattle.execution.specs.Prepared.{Given, lastCount}
 use Rattle.execution.proofs.Held.{given-count, given-good}
 use Rattle.transcript.specs.Replies.{size-kept, at-opened, at-kept, reply-within}
-use Rattle.rounds.specs.Rounds.{OpenedHash}
+use Rattle.views.specs.Opened.{OpenedHash}
 use Rattle.kept.specs.Kept.{KeptIn, Evaluates}
 use Rattle.walk.specs.Walk.{Standing, Reached, Stepped, checksAt, keptTests}
 
@@ -130,9 +129,6 @@ module _ {q n m N M τ D : ℕ} {entries p2 p3 p4 p6 p7 : List ℕ} {K : Key} {P
 
       place-listed : place (P .p2) e < length (P .p6)
       place-listed = omega (arith, hidden-length K (P .p6) good-hidden, place-lt K (P .p2) good-E e inside kept-P)
-
-      pub place-inside : e - r < length p6
-      place-inside = subst (λ (x : List ℕ). e - r < length x) (so .sixth) (omega (arith, place-listed, place-is))
 
       pub hidden-least : 1 ≤ getD p6 (e - r) 0
       unfolding goodHidden

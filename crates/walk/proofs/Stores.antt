@@ -7,7 +7,7 @@ use mathlib.Core.List.{List, [], _++_, append-nil, append-assoc}
 use native.Mathlib.Omega.{arith}
 use lib.ListN.{length, take, drop, length-append, length-drop}
 use lib.Seq.{length-take-le, drop-drop, take-add}
-use Rattle.lists.specs.Index.{pick, part}
+use Rattle.lists.specs.Index.{part}
 use Rattle.lists.specs.CatLaws.{part-length, part-mid, part-left, part-right, part-part}
 use Rattle.walk.specs.Walk.{put, Stored}
 

@@ -1,7 +1,7 @@
 -- The judge's walk over the executions. D is the depth of the seed tree; r of the executions before e are opened, and the reply of e
 -- begins at byte `at` of part 7.
 -- Assumes nothing.
-use Prim.Native.Nat.{ℕ, suc, _+_, _*_, _-_, _^_, _<_, _≤_}
+use Prim.Native.Nat.{ℕ, _+_, _*_, _-_, _^_, _<_, _≤_}
 use mathlib.Core.Path.{_≡_}
 use mathlib.Core.Bool.{Bool, false, not}
 use mathlib.Core.List.{List, [], _∷_, _++_}
@@ -14,7 +14,7 @@ use Rattle.numbers.specs.Sum.{sum}
 use Rattle.sha_core.specs.Fips180.{sha256}
 use Rattle.protocol.specs.Key.{Key, depth}
 use Rattle.protocol.specs.Shares.{hin, Πin, Ψin}
-use Rattle.protocol.specs.Prover.{opened, rank, hΓin, hπin, hψin}
+use Rattle.protocol.specs.Prover.{opened, rank}
 use Rattle.protocol.specs.Transcript.{Parts}
 use Rattle.protocol.specs.Judge.{replySize, κ, view, formChecks, executionChecks}
 use Rattle.refusals.specs.Number.{numberOf}

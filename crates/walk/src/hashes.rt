@@ -2,15 +2,14 @@
 
 ghost use mathlib.Core.Path.{_≡_};
 ghost use mathlib.Core.Bool.{false};
-ghost use mathlib.Core.List.{List};
-ghost use Prim.Native.Nat.{ℕ, _+_, _*_, _-_, _<_, _≤_};
+ghost use Prim.Native.Nat.{_+_, _*_, _-_, _<_, _≤_};
 ghost use lib.ListN.{length};
 ghost use Rattle.lists.specs.Check.{first};
 ghost use Rattle.refusals.specs.Number.{numberOf};
 ghost use Rattle.protocol.specs.Key.{Key};
 ghost use Rattle.protocol.specs.Transcript.{Parts};
 ghost use Rattle.walk.specs.Lists.{listsSize};
-ghost use Rattle.walk.specs.Walk.{Within, Standing, Stood, Reached, Stored, Walked, hashTests};
+ghost use Rattle.walk.specs.Walk.{Within, Standing, Stood, Stored, Walked, hashTests};
 use crate::round;
 use refusals::H_GAMMA;
 use refusals::H_PI;

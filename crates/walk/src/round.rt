@@ -2,8 +2,7 @@
 
 ghost use mathlib.Core.Path.{_≡_};
 ghost use mathlib.Core.Bool.{true, false};
-ghost use mathlib.Core.List.{List};
-ghost use Prim.Native.Nat.{ℕ, suc, _+_, _*_, _-_, _<_, _≤_};
+ghost use Prim.Native.Nat.{suc, _+_, _*_, _-_, _<_, _≤_};
 ghost use lib.Dec.{eqb};
 ghost use lib.ListN.{length, getD};
 ghost use Rattle.lists.specs.Index.{pick, same};
@@ -12,8 +11,8 @@ ghost use Rattle.refusals.specs.Number.{numberOf};
 ghost use Rattle.protocol.specs.Key.{Key};
 ghost use Rattle.protocol.specs.Prover.{opened};
 ghost use Rattle.protocol.specs.Transcript.{Parts};
-ghost use Rattle.execution.specs.Prepared.{lastCount};
 ghost use Rattle.walk.specs.Walk.{Within, Standing, Stood, Reached, Stepped, keptTests};
+use execution::prepare;
 use refusals::OMEGA;
 use refusals::OUTPUT_SUM;
 
@@ -27,26 +26,12 @@ pub struct Step {
     pub at: usize,
 }
 
-// How many bytes part 7 holds of a kept execution.
-fn reply_length(m: usize, parties: usize, depth: usize, hidden: usize) -> usize
-    requires { ⌜ m ≤ 128 ⌝ }
-    requires { ⌜ depth ≤ 5 ⌝ }
-    requires { ⌜ hidden < parties ⌝ }
-    ensures { λ r. ⌜ r ≡ 16 * depth + 32 + 4 * (m + 1 + lastCount m parties hidden) ⌝ }
-{
-    if hidden + 1 == parties {
-        return 16 * depth + 32 + 4 * (m + 1);
-    }
-    16 * depth + 32 + 4 * (m + 1 + 2 * m)
-}
-
 // The hidden party, counted from 0, of the kept execution at a place.
 fn hidden_party(hidden: &[u8], place: usize) -> usize
-    requires { ⌜ place < length (now hidden) ⌝ }
     requires { ⌜ 1 ≤ getD (now hidden) place 0 ⌝ }
     ensures { λ r. ⌜ r ≡ getD (now (hidden .entry)) place 0 - 1 ⌝ }
 {
-    hidden[place] as usize - 1
+    transcript::hidden_at(hidden, place) - 1
 }
 
 // Ω is the given one, or party N is hidden.
@@ -107,7 +92,7 @@ fn opened_round(
     let to = from + 16;
     let mut leaves = [0u8; 512];
     let size = 16 * parties;
-    let h = rounds::opened_hash(
+    let h = views::opened::opened_hash(
         q,
         m,
         parties,
@@ -161,7 +146,7 @@ fn kept_round(
 {
     let place = e - rank;
     let hidden = hidden_party(p6, place);
-    let end = at + reply_length(m, parties, depth, hidden);
+    let end = at + prepare::reply_length(m, parties, depth, hidden);
     let mut leaves = [0u8; 512];
     let size = 16 * parties;
     let v = kept::kept_execution(

@@ -15,11 +15,6 @@ use Rattle.accepted.proofs.Laws.{run-accepted, is-accepted, not-accepte
 use borrow.Author.Needs.{needs}
 use Rattle.accepted.proofs.refusal.Statement.{statement}
 use Rattle.accepted.proofs.refusal.Tie as tie
-use Rattle.accepted.proofs.refusal.Reads as reads
-use Rattle.accepted.proofs.refusal.Lts as lts
-use Rattle.fork.proofs.same_front.Reads as same-front-reads
-use Rattle.fork.proofs.same_hidden.Reads as same-hidden-reads
-use Rattle.judge.proofs.run.judge_run.Reads as judge-run-reads
 
 -- the key and the two files
 abbrev keyAt : tie.Start → Key
@@ -47,65 +42,51 @@ two-headed c =
     let s = c .before .before .before .before .before .before .before .before .before .before .before .before .before .before .before .before .before .before .before .before .before .before in
     accepted-headed (s .args .k) (keyAt s) (twoAt s) (of-with (s .args .k) (s .args .entries .now)) (run-accepted _ _ (c .before .before .before .before .before .judge-run2 .ensures .0) (c .if2 .left))
 
--- src/lib.rt:40:8
 judge-run-requires : tie.Need-judge-run-requires
 judge-run-requires c κs = search needs
 
--- src/lib.rt:41:9
 same-length : tie.Need-same-length
 same-length c = search needs
 
--- src/lib.rt:41:9
 same-length-2 : tie.Need-same-length-2
 same-length-2 c = search needs
 
--- src/lib.rt:41:9
 returns : tie.Need-returns
 returns c =
     let s = c .before .before .before .before .before .before .before .before .before .before .before .before .before .before in
     (first-refused (keyAt s) (oneAt s) (twoAt s) (not-accepted _ (c .before .before .before .before .before .judge-run .ensures .0) (c .if1 .taken)), ((λ z. absurd (let w : ⊥ = omega (arith, z) in w)), ((λ z. absurd (let w : ⊥ = omega (arith, z) in w)), (c .before .before .before .before .before .judge-run .ensures .1 .1 .0, refl))))
 
--- src/lib.rt:43:8
 judge-run-requires-2 : tie.Need-judge-run-requires-2
 judge-run-requires-2 c κs =
     let p = c .before .before .before .before .before .before .before .before .before .before .before .before .before .before .before .before .pre in
     (p .0, (p .1 .0, (p .1 .1 .1 .0, omega (arith, c .before .before .before .before .before .before .before .judge-run .ensures .1 .1 .1, p .1 .1 .1 .1))))
 
--- src/lib.rt:44:9
 same-length-3 : tie.Need-same-length-3
 same-length-3 c = search needs
 
--- src/lib.rt:44:9
 same-length-4 : tie.Need-same-length-4
 same-length-4 c = search needs
 
--- src/lib.rt:44:9
 same-length-5 : tie.Need-same-length-5
 same-length-5 c = search needs
 
--- src/lib.rt:44:9
 returns-2 : tie.Need-returns-2
 returns-2 c =
     let s = c .before .before .before .before .before .before .before .before .before .before .before .before .before .before .before .before .before .before .before .before .before .before in
     (second-refused (keyAt s) (oneAt s) (twoAt s) (one-good (c .before .before .before .before .before .before .before .before)) (not-accepted _ (c .before .before .before .before .before .judge-run2 .ensures .0) (c .if2 .taken)), ((λ z. absurd (let w : ⊥ = omega (arith, z) in w)), ((λ z. absurd (let w : ⊥ = omega (arith, z) in w)), (c .before .before .before .before .before .before .before .before .before .before .before .before .before .judge-run .ensures .1 .1 .0, c .before .before .before .before .before .judge-run2 .ensures .1 .1 .0))))
 
--- src/lib.rt:46:9
 same-front-requires : tie.Need-same-front-requires
 same-front-requires c κs = (c .before .before .before .before .before .before .before .before .before .before .before .before .before .before .before .before .before .before .before .before .before .before .pre .0, (one-headed (c .before .before .before .before .before .before .before .before), two-headed c))
 
--- src/lib.rt:47:9
 same-length-6 : tie.Need-same-length-6
 same-length-6 c = search needs
 
--- src/lib.rt:47:9
 same-length-7 : tie.Need-same-length-7
 same-length-7 c = search needs
 
--- src/lib.rt:47:9
 same-length-8 : tie.Need-same-length-8
 same-length-8 c = search needs
 
--- src/lib.rt:47:9
 returns-3 : tie.Need-returns-3
 returns-3 c =
     let s = c .before .before .before .before .before .before .before .before .before .before .before .before .before .before .before .before .before .before .before .before .before .before .before .before in (
@@ -113,23 +94,18 @@ returns-3 c =
       ((λ z. absurd (let w : ⊥ = omega (arith, z) in w)), ((λ z. absurd (let w : ⊥ = omega (arith, z) in w)), (c .before .before .before .before .before .before .before .before .before .before .before .before .before .before .before .judge-run .ensures .1 .1 .0, c .before .before .before .before .before .before .before .judge-run2 .ensures .1 .1 .0))),
     )
 
--- src/lib.rt:49:8
 same-hidden-requires : tie.Need-same-hidden-requires
 same-hidden-requires c κs = (c .before .before .before .before .before .before .before .before .before .before .before .before .before .before .before .before .before .before .before .before .before .before .before .before .pre .0, (one-headed (c .before .before .before .before .before .before .before .before .before .before), two-headed (c .before .before)))
 
--- src/lib.rt:50:9
 same-length-9 : tie.Need-same-length-9
 same-length-9 c = search needs
 
--- src/lib.rt:50:9
 same-length-10 : tie.Need-same-length-10
 same-length-10 c = search needs
 
--- src/lib.rt:50:9
 same-length-11 : tie.Need-same-length-11
 same-length-11 c = search needs
 
--- src/lib.rt:50:9
 returns-4 : tie.Need-returns-4
 returns-4 c =
     let s = c .before .before .before .before .before .before .before .before .before .before .before .before .before .before .before .before .before .before .before .before .before .before .before .before .before .before in (
@@ -137,19 +113,15 @@ returns-4 c =
       ((λ z. absurd (let w : ⊥ = omega (arith, z) in w)), ((λ z. absurd (let w : ⊥ = omega (arith, z) in w)), (c .before .before .before .before .before .before .before .before .before .before .before .before .before .before .before .before .before .judge-run .ensures .1 .1 .0, c .before .before .before .before .before .before .before .before .before .judge-run2 .ensures .1 .1 .0))),
     )
 
--- src/lib.rt:20:1
 same-length-12 : tie.Need-same-length-12
 same-length-12 c = search needs
 
--- src/lib.rt:20:1
 same-length-13 : tie.Need-same-length-13
 same-length-13 c = search needs
 
--- src/lib.rt:20:1
 same-length-14 : tie.Need-same-length-14
 same-length-14 c = search needs
 
--- src/lib.rt:20:1
 returns-5 : tie.Need-returns-5
 returns-5 c =
     let s = c .before .before .before .before .before .before .before .before .before .before .before .before .before .before .before .before .before .before .before .before .before .before .before .before .before .before in (

@@ -5,46 +5,34 @@ use Rattle.answer.proofs.Laws.{eight-stored}
 use borrow.Author.Needs.{needs}
 use Rattle.answer.proofs.fill.Statement.{statement}
 use Rattle.answer.proofs.fill.Tie as tie
-use Rattle.answer.proofs.fill.Reads as reads
-use Rattle.answer.proofs.fill.Lts as lts
 
--- src/lib.rt:35:5
 slice-write-out : tie.Need-slice-write-out
 slice-write-out c = search needs
 
--- src/lib.rt:36:5
 slice-write-out-2 : tie.Need-slice-write-out-2
 slice-write-out-2 c = search needs
 
--- src/lib.rt:37:5
 slice-write-out-3 : tie.Need-slice-write-out-3
 slice-write-out-3 c = search needs
 
--- src/lib.rt:38:5
 slice-write-out-4 : tie.Need-slice-write-out-4
 slice-write-out-4 c = search needs
 
--- src/lib.rt:39:5
 slice-write-out-5 : tie.Need-slice-write-out-5
 slice-write-out-5 c = simp length-set (omega (arith, c .pre))
 
--- src/lib.rt:40:5
 slice-write-out-6 : tie.Need-slice-write-out-6
 slice-write-out-6 c = simp length-set (omega (arith, c .pre))
 
--- src/lib.rt:41:5
 slice-write-out-7 : tie.Need-slice-write-out-7
 slice-write-out-7 c = simp length-set (omega (arith, c .pre))
 
--- src/lib.rt:42:5
 slice-write-out-8 : tie.Need-slice-write-out-8
 slice-write-out-8 c = simp length-set (omega (arith, c .pre))
 
--- src/lib.rt:31:1
 same-length : tie.Need-same-length
 same-length c = search needs
 
--- src/lib.rt:31:1
 returns : tie.Need-returns
 returns c = eight-stored (c .args .out .now) (c .args .kind) (c .args .e) (c .args .i) (c .args .size) (c .args .k) (c .args .b) (c .args .d) 0 (c .pre)
 

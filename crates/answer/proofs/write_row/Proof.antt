@@ -5,135 +5,100 @@ use Rattle.answer.proofs.Laws.{row-collision, row-secret, row-square, r
 use borrow.Author.Needs.{needs}
 use Rattle.answer.proofs.write_row.Statement.{statement}
 use Rattle.answer.proofs.write_row.Tie as tie
-use Rattle.answer.proofs.write_row.Reads as reads
-use Rattle.answer.proofs.write_row.Lts as lts
-use Rattle.answer.proofs.fill.Reads as fill-reads
-use Rattle.answer.proofs.word.Reads as word-reads
 
 enum-told : tie.Need-enum-told
 enum-told c = search needs
 
--- src/lib.rt:52:28
 enum-known-r : tie.Need-enum-known-r
 enum-known-r c = search needs
 
--- src/lib.rt:53:18
 slice-relend-prefix-fill : tie.Need-slice-relend-prefix-fill
 slice-relend-prefix-fill c = search needs
 
--- src/lib.rt:53:18
 slice-aggregate-fill : tie.Need-slice-aggregate-fill
 slice-aggregate-fill c = sym (length-take-le 8 (c .before .before .before .before .before .args .answer .now) (c .before .before .before .before .before .pre))
 
--- src/lib.rt:53:42
 word-requires : tie.Need-word-requires
 word-requires c κs = search needs
 
--- src/lib.rt:53:51
 word-requires-2 : tie.Need-word-requires-2
 word-requires-2 c κs = search needs
 
--- src/lib.rt:53:60
 word-requires-3 : tie.Need-word-requires-3
 word-requires-3 c κs = search needs
 
--- src/lib.rt:53:13
 fill-requires : tie.Need-fill-requires
 fill-requires c κs = length-take-le 8 (c .before .before .before .before .before .before .before .before .args .answer .now) (c .before .before .before .before .before .before .before .before .pre)
 
--- src/lib.rt:55:33
 enum-told-2 : tie.Need-enum-told-2
 enum-told-2 c = search needs
 
--- src/lib.rt:55:33
 slice-relend-prefix-fill-2 : tie.Need-slice-relend-prefix-fill-2
 slice-relend-prefix-fill-2 c = search needs
 
--- src/lib.rt:55:33
 slice-aggregate-fill-2 : tie.Need-slice-aggregate-fill-2
 slice-aggregate-fill-2 c = sym (length-take-le 8 (c .before .before .before .before .args .answer .now) (c .before .before .before .before .pre))
 
--- src/lib.rt:55:28
 fill-requires-2 : tie.Need-fill-requires-2
 fill-requires-2 c κs = length-take-le 8 (c .before .before .before .before .args .answer .now) (c .before .before .before .before .pre)
 
--- src/lib.rt:56:25
 enum-known-r-2 : tie.Need-enum-known-r-2
 enum-known-r-2 c = search needs
 
--- src/lib.rt:56:45
 slice-relend-prefix-fill-3 : tie.Need-slice-relend-prefix-fill-3
 slice-relend-prefix-fill-3 c = search needs
 
--- src/lib.rt:56:45
 slice-aggregate-fill-3 : tie.Need-slice-aggregate-fill-3
 slice-aggregate-fill-3 c = sym (length-take-le 8 (c .before .before .before .before .before .args .answer .now) (c .before .before .before .before .before .pre))
 
--- src/lib.rt:56:66
 word-requires-4 : tie.Need-word-requires-4
 word-requires-4 c κs = search needs
 
--- src/lib.rt:56:81
 word-requires-5 : tie.Need-word-requires-5
 word-requires-5 c κs = search needs
 
--- src/lib.rt:56:40
 fill-requires-3 : tie.Need-fill-requires-3
 fill-requires-3 c κs = length-take-le 8 (c .before .before .before .before .before .before .before .args .answer .now) (c .before .before .before .before .before .before .before .pre)
 
--- src/lib.rt:57:25
 enum-known-r-3 : tie.Need-enum-known-r-3
 enum-known-r-3 c = search needs
 
--- src/lib.rt:57:36
 slice-relend-prefix-fill-4 : tie.Need-slice-relend-prefix-fill-4
 slice-relend-prefix-fill-4 c = search needs
 
--- src/lib.rt:57:36
 slice-aggregate-fill-4 : tie.Need-slice-aggregate-fill-4
 slice-aggregate-fill-4 c = sym (length-take-le 8 (c .before .before .before .before .before .args .answer .now) (c .before .before .before .before .before .pre))
 
--- src/lib.rt:57:57
 word-requires-6 : tie.Need-word-requires-6
 word-requires-6 c κs = search needs
 
--- src/lib.rt:57:31
 fill-requires-4 : tie.Need-fill-requires-4
 fill-requires-4 c κs = length-take-le 8 (c .before .before .before .before .before .before .args .answer .now) (c .before .before .before .before .before .before .pre)
 
--- src/lib.rt:46:1
 returns : tie.Need-returns
 returns c = search needs
 
--- src/lib.rt:46:1
 same-length : tie.Need-same-length
 same-length c = search needs
 
--- src/lib.rt:46:1
 returns-2 : tie.Need-returns-2
 returns-2 c = row-collision (c .before .before .before .before .before .before .before .before .before .before .before .args .answer .now) _ _ _ _ (c .before .before .before .before .before .before .before .before .r .given .1) (c .before .before .before .before .before .word .ensures) (c .before .before .before .before .word2 .ensures) (c .before .before .before .word3 .ensures) (c .before .before .fill .ensures)
 
--- src/lib.rt:46:1
 same-length-2 : tie.Need-same-length-2
 same-length-2 c = search needs
 
--- src/lib.rt:46:1
 returns-3 : tie.Need-returns-3
 returns-3 c = row-secret (c .before .before .before .before .before .before .before .args .answer .now) (c .before .before .before .before .enum-told2 .given .1) (c .before .before .fill2 .ensures)
 
--- src/lib.rt:46:1
 same-length-3 : tie.Need-same-length-3
 same-length-3 c = search needs
 
--- src/lib.rt:46:1
 returns-4 : tie.Need-returns-4
 returns-4 c = row-square (c .before .before .before .before .before .before .before .before .before .before .args .answer .now) _ _ _ _ (c .before .before .before .before .before .before .before .r2 .given .1) (c .before .before .before .before .word4 .ensures) (c .before .before .before .word5 .ensures) (c .before .before .fill3 .ensures)
 
--- src/lib.rt:46:1
 same-length-4 : tie.Need-same-length-4
 same-length-4 c = search needs
 
--- src/lib.rt:46:1
 returns-5 : tie.Need-returns-5
 returns-5 c = row-errors (c .before .before .before .before .before .before .before .before .before .args .answer .now) _ (c .before .before .before .before .before .before .r3 .given .1) (c .before .before .before .word6 .ensures) (c .before .before .fill4 .ensures)
 

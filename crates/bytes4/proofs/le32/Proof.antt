@@ -1,6 +1,6 @@
 -- `le32` adds the four bytes by their weights. Assumes nothing.
 use native.Mathlib.Omega.{arith}
-use Rattle.lists.specs.ReadingExtra.{num-at}
+use Rattle.lists.specs.CatLaws.{num-at}
 use borrow.Author.Needs.{needs}
 use Rattle.bytes4.proofs.le32.Statement.{statement}
 use Rattle.bytes4.proofs.le32.Tie as tie

@@ -1,6 +1,6 @@
 -- `put32` stores the four digits. Assumes nothing.
 use Rattle.lists.specs.Bytes.{le4}
-use Rattle.lists.specs.ReadingExtra.{four-stored}
+use Rattle.lists.specs.Written.{four-stored}
 use borrow.Author.Needs.{needs}
 use Rattle.bytes4.proofs.put32.Statement.{statement}
 use Rattle.bytes4.proofs.put32.Tie as tie

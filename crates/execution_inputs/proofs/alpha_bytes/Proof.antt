@@ -10,57 +10,41 @@ use Rattle.views.proofs.Laws.{sum-tab}
 use borrow.Author.Needs.{needs}
 use Rattle.execution_inputs.proofs.alpha_bytes.Statement.{statement}
 use Rattle.execution_inputs.proofs.alpha_bytes.Tie as tie
-use Rattle.execution_inputs.proofs.alpha_bytes.Reads as reads
-use Rattle.execution_inputs.proofs.alpha_bytes.Lts as lts
-use Rattle.inputs.proofs.put_numbers.Reads as put-numbers-reads
-use Rattle.numbers.proofs.reduced.Reads as reduced-reads
-use Rattle.views.proofs.answers.alpha_row.Reads as alpha-row-reads
-use Rattle.views.proofs.answers.total.Reads as total-reads
 
 -- a row has an entry for each party
 row-long : (c : tie.After-alpha-row)
     → length (take (c .before .before .before .before .args .parties) (c .alpha-row .result)) ≡ c .before .before .before .before .args .parties
 row-long c = ap length (c .alpha-row .ensures) ∙ tab-length _ _
 
--- src/lib.rt:46:15
 alpha-row-requires : tie.Need-alpha-row-requires
 alpha-row-requires c κs =
     let p = c .before .before .before .pre in
     (p .0, (p .1 .0, (p .1 .1 .0, (p .1 .1 .1 .0, p .1 .1 .1 .1 .0))))
 
--- src/lib.rt:47:25
 array-share-prefix-row : tie.Need-array-share-prefix-row
 array-share-prefix-row c = search needs
 
--- src/lib.rt:47:25
 slice-aggregate-put-numbers : tie.Need-slice-aggregate-put-numbers
 slice-aggregate-put-numbers c = sym (row-long (c .before))
 
--- src/lib.rt:47:5
 put-numbers-requires : tie.Need-put-numbers-requires
 put-numbers-requires c κs = c .before .before .before .before .before .before .pre .1 .1 .1 .1 .1 ∙ ap (λ x. 4 * x) (sym (row-long (c .before .before)))
 
--- src/lib.rt:48:37
 array-share-prefix-row-2 : tie.Need-array-share-prefix-row-2
 array-share-prefix-row-2 c = search needs
 
--- src/lib.rt:48:37
 slice-aggregate-total : tie.Need-slice-aggregate-total
 slice-aggregate-total c = sym (row-long (c .before .before .before .before .before .before))
 
--- src/lib.rt:48:22
 total-requires : tie.Need-total-requires
 total-requires c κs = omega (arith, row-long (c .before .before .before .before .before .before), c .before .before .before .before .before .before .before .before .before .before .pre .0 .N-most)
 
--- src/lib.rt:48:5
 reduced-requires : tie.Need-reduced-requires
 reduced-requires c κs = search needs
 
--- src/lib.rt:27:1
 same-length : tie.Need-same-length
 same-length c = search needs
 
--- src/lib.rt:27:1
 returns : tie.Need-returns
 returns c =
     let row = c .before .before .before .before .before .before .before .before .alpha-row .ensures in

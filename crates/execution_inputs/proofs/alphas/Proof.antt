@@ -4,20 +4,17 @@ use mathlib.Core.List.{_++_}
 use Prim.Native.Nat.{_+_, _*_, _-_, _%_, _≤_, _<_}
 use native.Mathlib.Omega.{arith}
 use lib.ListN.{length, length-set, drop}
+use Rattle.lists.specs.Written.{Built, built-all, built-item, built-none}
 use Rattle.lists.specs.Tab.{tab}
 use Rattle.lists.specs.Bytes.{nums}
 use Rattle.numbers.specs.Sum.{sum}
 use Rattle.execution.specs.Lists.{alphaAt}
 use Rattle.views.proofs.Laws.{stored}
-use Rattle.inputs.specs.Steps.{Built}
-use Rattle.inputs.proofs.Laws.{built-none, built-more, built-all, within}
+use Rattle.inputs.proofs.Laws.{within}
 use Rattle.execution_inputs.proofs.Laws.{row-ends, row-next}
 use borrow.Author.Needs.{needs}
 use Rattle.execution_inputs.proofs.alphas.Statement.{statement}
 use Rattle.execution_inputs.proofs.alphas.Tie as tie
-use Rattle.execution_inputs.proofs.alphas.Reads as reads
-use Rattle.execution_inputs.proofs.alphas.Lts as lts
-use Rattle.execution_inputs.proofs.alpha_bytes.Reads as alpha-bytes-reads
 
 abbrev Inv-loop : tie.InvT-loop
 Inv-loop q m parties hidden given work sums₀ out₀ width at₀ k₀ sums out at k =
@@ -34,54 +31,42 @@ ends c =
     let s = c .before .before .before .before .before .before in
     omega (arith, row-ends (4 * s .args .parties) (s .args .m) (c .before .loop .k) (c .before .loop .at) (c .before .loop .inv .1) (c .loop-test .taken), c .before .loop .inv .2, s .pre .1 .1 .1 .1 .1)
 
--- src/lib.rt:71:17
 mul-width : tie.Need-mul-width Inv-loop μ-loop
 mul-width c = search needs
 
--- src/lib.rt:74:5
 loop-holds : tie.Need-loop-holds Inv-loop μ-loop
 unfolding tab
 loop-holds c = (search needs, omega arith, refl, refl, built-none _ _, refl)
 
--- src/lib.rt:75:19
 add-end : tie.Need-add-end Inv-loop μ-loop
 add-end c = omega (arith, ends c)
 
--- src/lib.rt:76:68
 sub-alpha-bytes : tie.Need-sub-alpha-bytes Inv-loop μ-loop
 sub-alpha-bytes c = search needs
 
--- src/lib.rt:76:68
 part-alpha-bytes-start : tie.Need-part-alpha-bytes-start Inv-loop μ-loop
 part-alpha-bytes-start c = search needs
 
--- src/lib.rt:76:68
 part-alpha-bytes-end : tie.Need-part-alpha-bytes-end Inv-loop μ-loop
 part-alpha-bytes-end c = omega (arith, ends c)
 
--- src/lib.rt:76:13
 alpha-bytes-requires : tie.Need-alpha-bytes-requires Inv-loop μ-loop
 alpha-bytes-requires c κs =
     let p = c .before .before .before .before .before .before .before .pre in
     (p .0, (p .1 .0, (c .before .loop-test .taken, (p .1 .1 .0, (p .1 .1 .1 .0, within _ _ _ (ends (c .before)))))))
 
--- src/lib.rt:77:9
 mul-sums : tie.Need-mul-sums Inv-loop μ-loop
 mul-sums c = search needs
 
--- src/lib.rt:77:9
 slice-write-sums : tie.Need-slice-write-sums Inv-loop μ-loop
 slice-write-sums c = omega (arith, c .before .before .before .before .loop-test .taken, c .before .before .before .before .before .loop .inv .3, c .before .before .before .before .before .before .before .before .before .before .pre .1 .1 .1 .1 .0)
 
--- src/lib.rt:79:9
 add-k : tie.Need-add-k Inv-loop μ-loop
 add-k c = search needs
 
--- src/lib.rt:74:5
 loop-less : tie.Need-loop-less Inv-loop μ-loop
 loop-less c = search needs
 
--- src/lib.rt:74:5
 loop-again : tie.Need-loop-again Inv-loop μ-loop
 loop-again c =
     let l = c .before .before .before .before .before .loop in
@@ -93,19 +78,16 @@ loop-again c =
       row-next (4 * a .parties) (l .k) (l .at) (l .inv .1),
       search needs,
       simp length-set (l .inv .3),
-      built-more (4 * a .parties) _ (l .inv .4) (r .ensures .0) (r .kept .1 .1 .1 .1 .1 .1 .1 .0 ∙ within (l .out) (l .at) (4 * a .parties) (ends (c .before .before .before .before))),
+      built-item (4 * a .parties) _ (l .inv .4) (r .ensures .0) (r .kept .1 .1 .1 .1 .1 .1 .1 .0 ∙ within (l .out) (l .at) (4 * a .parties) (ends (c .before .before .before .before))),
       stored _ _ _ _ _ room (l .inv .5) (r .ensures .1),
     )
 
--- src/lib.rt:52:1
 same-length : tie.Need-same-length Inv-loop μ-loop
 same-length c = search needs
 
--- src/lib.rt:52:1
 same-length-2 : tie.Need-same-length-2 Inv-loop μ-loop
 same-length-2 c = search needs
 
--- src/lib.rt:52:1
 returns : tie.Need-returns Inv-loop μ-loop
 returns c =
     let l = c .before .loop in

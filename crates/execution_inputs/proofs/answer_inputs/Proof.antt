@@ -4,58 +4,44 @@ use Prim.Native.Nat.{_+_, _*_, _-_}
 use native.Mathlib.Omega.{arith}
 use lib.ListN.{length}
 use lib.Seq.{length-take-le}
+use Rattle.lists.specs.Written.{later-part, parts-joined}
 use Rattle.views.proofs.Laws.{pi-is}
 use Rattle.kept.proofs.Laws.{shared-for-Π}
-use Rattle.inputs.proofs.Laws.{joined, later-part}
 use Rattle.execution_inputs.proofs.Laws.{stated}
 use borrow.Author.Needs.{needs}
 use Rattle.execution_inputs.proofs.answer_inputs.Statement.{statement}
 use Rattle.execution_inputs.proofs.answer_inputs.Tie as tie
-use Rattle.execution_inputs.proofs.answer_inputs.Reads as reads
-use Rattle.execution_inputs.proofs.answer_inputs.Lts as lts
-use Rattle.execution_inputs.proofs.pi_input.Reads as pi-input-reads
-use Rattle.execution_inputs.proofs.psi_input.Reads as psi-input-reads
 
--- src/lib.rt:198:28
 mul-mid : tie.Need-mul-mid
 mul-mid c = search needs
 
--- src/lib.rt:198:28
 add-mid : tie.Need-add-mid
 add-mid c = search needs
 
--- src/lib.rt:198:15
 sub-mid : tie.Need-sub-mid
 sub-mid c = search needs
 
--- src/lib.rt:209:9
 slice-relend-prefix-pi-input : tie.Need-slice-relend-prefix-pi-input
 slice-relend-prefix-pi-input c = search needs
 
--- src/lib.rt:209:9
 slice-aggregate-pi-input : tie.Need-slice-aggregate-pi-input
 slice-aggregate-pi-input c = sym (length-take-le (length (c .before .before .before .before .before .before .before .before .before .before .args .out .now) - (4 * c .before .before .before .before .before .before .before .before .before .before .args .parties + 16)) (c .before .before .before .before .before .before .before .before .before .before .args .out .now) (omega arith))
 
--- src/lib.rt:199:5
 pi-input-requires : tie.Need-pi-input-requires
 pi-input-requires c κs =
     let a = c .before .before .before .before .before .before .before .before .before .before .args in
     let p = c .before .before .before .before .before .before .before .before .before .before .pre in
     (p .0, (p .1 .1 .1 .1 .1 .1 .1 .1 .1 .0, (p .1 .1 .1 .0, ((λ _. omega (arith, p .1 .1 .1 .1 .0)), (p .1 .1 .1 .1 .1 .0, (p .1 .1 .1 .1 .1 .1 .1 .1 .0, (p .1 .1 .1 .1 .1 .1 .1 .1 .1 .1 .0, length-take-le (length (a .out .now) - (4 * a .parties + 16)) (a .out .now) (omega arith) ∙ omega (arith, p .1 .1 .1 .1 .1 .1 .1 .1 .1 .1 .1 .1))))))))
 
--- src/lib.rt:225:9
 sub-psi-input : tie.Need-sub-psi-input
 sub-psi-input c = search needs
 
--- src/lib.rt:225:9
 part-psi-input-start : tie.Need-part-psi-input-start
 part-psi-input-start c = search needs
 
--- src/lib.rt:225:9
 part-psi-input-end : tie.Need-part-psi-input-end
 part-psi-input-end c = search needs
 
--- src/lib.rt:211:5
 psi-input-requires : tie.Need-psi-input-requires
 psi-input-requires c κs =
     let a = c .before .before .before .before .before .before .before .before .before .before .before .before .before .before .before .before .before .before .args in
@@ -64,26 +50,22 @@ psi-input-requires c κs =
     let mid = length (a .out .now) - (4 * a .parties + 16) in
     (p .0, (p .1 .0, (p .1 .1 .0, (p .1 .1 .1 .0, (p .1 .1 .1 .1 .0, (p .1 .1 .1 .1 .1 .0, (p .1 .1 .1 .1 .1 .1 .0, (p .1 .1 .1 .1 .1 .1 .1 .0, (omega (arith, n .kept .1 .1 .1 .1 .1 .1 .1 .1 .0, p .1 .1 .1 .1 .1 .1 .1 .1 .1 .1 .0), (p .1 .1 .1 .1 .1 .1 .1 .1 .0, (p .1 .1 .1 .1 .1 .1 .1 .1 .1 .0, (p .1 .1 .1 .1 .1 .1 .1 .1 .1 .1 .1 .0, later-part (a .out .now) (n .last .1 .1 .1 .1 .1 .1 .1 .1 .1 .0) mid (n .kept .1 .1 .1 .1 .1 .1 .1 .1 .1 .0 ∙ length-take-le mid (a .out .now) (omega arith)) ∙ omega (arith, p .1 .1 .1 .1 .1 .1 .1 .1 .1 .1 .1 .1)))))))))))))
 
--- src/lib.rt:166:1
 same-length : tie.Need-same-length
 same-length c = search needs
 
--- src/lib.rt:166:1
 same-length-2 : tie.Need-same-length-2
 same-length-2 c = search needs
 
--- src/lib.rt:166:1
 same-length-3 : tie.Need-same-length-3
 same-length-3 c = search needs
 
--- src/lib.rt:166:1
 returns : tie.Need-returns
 returns c =
     let a = c .before .before .before .before .before .before .before .before .before .before .before .before .before .before .before .before .before .before .before .before .before .before .before .args in
     let n = c .before .before .before .before .before .before .before .before .before .before .before .before .pi-input in
     let mid = length (a .out .now) - (4 * a .parties + 16) in
     λ K v so.
-    joined (a .out .now) (n .last .1 .1 .1 .1 .1 .1 .1 .1 .1 .0) _ mid (n .kept .1 .1 .1 .1 .1 .1 .1 .1 .1 .0 ∙ length-take-le mid (a .out .now) (omega arith)) (n .ensures .0 ∙ pi-is (shared-for-Π so) (a .kappa .now))
+    parts-joined (a .out .now) (n .last .1 .1 .1 .1 .1 .1 .1 .1 .1 .0) _ mid (n .kept .1 .1 .1 .1 .1 .1 .1 .1 .1 .0 ∙ length-take-le mid (a .out .now) (omega arith)) (n .ensures .0 ∙ pi-is (shared-for-Π so) (a .kappa .now))
     (c .before .before .before .before .psi-input .ensures K v (stated so (n .last .1 .1 .1 .1 .1 .1 .1 .1 .0) (a .sums .now) (n .ensures .1)))
 
 pub answer-inputs-spec : {M : Type 1} → statement M

@@ -4,64 +4,48 @@ use Prim.Native.Nat.{_+_, _*_}
 use native.Mathlib.Omega.{arith}
 use lib.ListN.{replicate}
 use lib.Seq.{length-take-le}
+use Rattle.lists.specs.Written.{later-part, parts-joined}
 use Rattle.views.specs.Seen.{bounded}
-use Rattle.inputs.proofs.Laws.{joined, later-part}
 use borrow.Author.Needs.{needs}
 use Rattle.execution_inputs.proofs.later_inputs.Statement.{statement}
 use Rattle.execution_inputs.proofs.later_inputs.Tie as tie
-use Rattle.execution_inputs.proofs.later_inputs.Reads as reads
-use Rattle.execution_inputs.proofs.later_inputs.Lts as lts
-use Rattle.execution_inputs.proofs.answer_inputs.Reads as answer-inputs-reads
-use Rattle.inputs.proofs.omega_input.Reads as omega-input-reads
 
--- src/lib.rt:260:15
 mul-mid : tie.Need-mul-mid
 mul-mid c = search needs
 
--- src/lib.rt:260:15
 add-mid : tie.Need-add-mid
 add-mid c = search needs
 
--- src/lib.rt:261:62
 slice-relend-prefix-omega-input : tie.Need-slice-relend-prefix-omega-input
 slice-relend-prefix-omega-input c = search needs
 
--- src/lib.rt:261:62
 slice-aggregate-omega-input : tie.Need-slice-aggregate-omega-input
 slice-aggregate-omega-input c = sym (length-take-le (4 * c .before .before .before .before .before .before .before .before .args .m + 16) (c .before .before .before .before .before .before .before .before .args .out .now) (omega arith))
 
--- src/lib.rt:261:5
 omega-input-requires : tie.Need-omega-input-requires
 omega-input-requires c κs =
     let a = c .before .before .before .before .before .before .before .before .args in
     let p = c .before .before .before .before .before .before .before .before .pre in
     (bounded (p .0) (p .1 .1 .1 .0), (p .1 .1 .1 .1 .1 .1 .1 .1 .0, (p .1 .1 .1 .1 .1 .1 .1 .1 .1 .0, length-take-le (4 * a .m + 16) (a .out .now) (omega (arith, p .1 .1 .1 .1 .1 .1 .1 .1 .1 .1 .1)))))
 
--- src/lib.rt:276:9
 slice-aggregate-answer-inputs : tie.Need-slice-aggregate-answer-inputs
 slice-aggregate-answer-inputs c = search needs
 
--- src/lib.rt:277:9
 array-borrow-prefix-outs : tie.Need-array-borrow-prefix-outs
 array-borrow-prefix-outs c = search needs
 
--- src/lib.rt:277:9
 slice-aggregate-answer-inputs-2 : tie.Need-slice-aggregate-answer-inputs-2
 slice-aggregate-answer-inputs-2 c = sym (length-take-le _ (replicate 32 0) (c .before .before .before .before .before .before .before .before .before .before .before .before .before .pre .0 .N-most))
 
--- src/lib.rt:278:9
 sub-answer-inputs : tie.Need-sub-answer-inputs
 sub-answer-inputs c = search needs
 
--- src/lib.rt:278:9
 part-answer-inputs-start : tie.Need-part-answer-inputs-start
 part-answer-inputs-start c = search needs
 
--- src/lib.rt:278:9
 part-answer-inputs-end : tie.Need-part-answer-inputs-end
 part-answer-inputs-end c = search needs
 
--- src/lib.rt:264:5
 answer-inputs-requires : tie.Need-answer-inputs-requires
 answer-inputs-requires c κs =
     let a = c .before .before .before .before .before .before .before .before .before .before .before .before .before .before .args in
@@ -69,17 +53,15 @@ answer-inputs-requires c κs =
     let n = c .before .before .before .before .before .omega-input in
     (p .0, (p .1 .0, (p .1 .1 .0, (p .1 .1 .1 .0, (p .1 .1 .1 .1 .0, (p .1 .1 .1 .1 .1 .0, (p .1 .1 .1 .1 .1 .1 .0, (p .1 .1 .1 .1 .1 .1 .1 .0, (p .1 .1 .1 .1 .1 .1 .1 .1 .1 .0, (p .1 .1 .1 .1 .1 .1 .1 .1 .1 .1 .0, (p .0 .m-most, (length-take-le _ (replicate 32 0) (p .0 .N-most), later-part (a .out .now) (n .last .1 .1 .1 .1 .1 .0) (4 * a .m + 16) (n .kept .1 .1 .1 .1 .1 .0 ∙ length-take-le (4 * a .m + 16) (a .out .now) (omega (arith, p .1 .1 .1 .1 .1 .1 .1 .1 .1 .1 .1))) ∙ omega (arith, p .1 .1 .1 .1 .1 .1 .1 .1 .1 .1 .1)))))))))))))
 
--- src/lib.rt:230:1
 same-length : tie.Need-same-length
 same-length c = search needs
 
--- src/lib.rt:230:1
 returns : tie.Need-returns
 returns c =
     let a = c .before .before .before .before .before .before .before .before .before .before .before .before .before .before .before .before .before .before .before .args in
     let n = c .before .before .before .before .before .before .before .before .before .before .omega-input in
     λ K v so.
-    joined (a .out .now) (n .last .1 .1 .1 .1 .1 .0) _ (4 * a .m + 16) (n .kept .1 .1 .1 .1 .1 .0 ∙ length-take-le (4 * a .m + 16) (a .out .now) (omega (arith, c .before .before .before .before .before .before .before .before .before .before .before .before .before .before .before .before .before .before .before .pre .1 .1 .1 .1 .1 .1 .1 .1 .1 .1 .1))) (n .ensures)
+    parts-joined (a .out .now) (n .last .1 .1 .1 .1 .1 .0) _ (4 * a .m + 16) (n .kept .1 .1 .1 .1 .1 .0 ∙ length-take-le (4 * a .m + 16) (a .out .now) (omega (arith, c .before .before .before .before .before .before .before .before .before .before .before .before .before .before .before .before .before .before .before .pre .1 .1 .1 .1 .1 .1 .1 .1 .1 .1 .1))) (n .ensures)
     (c .before .before .before .before .answer-inputs .ensures K v so)
 
 pub later-inputs-spec : {M : Type 1} → statement M

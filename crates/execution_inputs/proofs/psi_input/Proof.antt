@@ -7,45 +7,32 @@ use Rattle.execution_inputs.proofs.Laws.{psi-in}
 use borrow.Author.Needs.{needs}
 use Rattle.execution_inputs.proofs.psi_input.Statement.{statement}
 use Rattle.execution_inputs.proofs.psi_input.Tie as tie
-use Rattle.execution_inputs.proofs.psi_input.Reads as reads
-use Rattle.execution_inputs.proofs.psi_input.Lts as lts
-use Rattle.bytes4.proofs.le32.Reads as le32-reads
-use Rattle.inputs.proofs.put_with_block.Reads as put-with-block-reads
-use Rattle.outputs.proofs.outputs.Reads as outputs-reads
 
--- src/lib.rt:146:9
 le32-requires : tie.Need-le32-requires
 le32-requires c κs = search needs
 
--- src/lib.rt:147:5
 outputs-requires : tie.Need-outputs-requires
 outputs-requires c κs =
     let p = c .before .before .before .before .before .before .before .before .before .before .pre in
     (p .0, (p .1 .0, (p .1 .1 .0, (p .1 .1 .1 .0, (p .1 .1 .1 .1 .1 .1 .0, (p .1 .1 .1 .1 .1 .1 .1 .0, (p .1 .1 .1 .1 .1 .1 .1 .1 .0, (p .1 .1 .1 .1 .1 .1 .1 .1 .1 .0, (p .1 .1 .1 .1 .1 .1 .1 .1 .1 .1 .0, omega (arith, p .1 .1 .1 .1 .1 .1 .1 .1 .1 .1 .1 .0))))))))))
 
--- src/lib.rt:161:41
 mul-put-with-block : tie.Need-mul-put-with-block
 mul-put-with-block c = search needs
 
--- src/lib.rt:161:41
 add-put-with-block : tie.Need-add-put-with-block
 add-put-with-block c = search needs
 
--- src/lib.rt:161:5
 put-with-block-requires : tie.Need-put-with-block-requires
 put-with-block-requires c κs =
     let p = c .before .before .before .before .before .before .before .before .before .before .before .before .before .before .before .pre in
     (p .1 .1 .1 .1 .1 .0, omega (arith, c .before .before .before .before .outputs .kept .1 .1 .1 .1 .1 .1 .1 .1 .1 .1 .1 .0, p .1 .1 .1 .1 .1 .1 .1 .1 .1 .1 .1 .0, p .1 .1 .1 .1 .1 .1 .1 .1 .1 .1 .1 .1))
 
--- src/lib.rt:114:1
 same-length : tie.Need-same-length
 same-length c = search needs
 
--- src/lib.rt:114:1
 same-length-2 : tie.Need-same-length-2
 same-length-2 c = search needs
 
--- src/lib.rt:114:1
 returns : tie.Need-returns
 returns c =
     let a = c .before .before .before .before .before .before .before .before .before .before .before .before .before .before .before .before .before .before .args in

@@ -1,6 +1,6 @@
 -- `feed::lay` meets its contract. The loop's invariant: b starts with the bytes of i numbers. Assumes nothing.
 use mathlib.Core.Path.{_≡_, refl}
-use Prim.Native.Nat.{_+_, _-_, _*_, _≤_}
+use Prim.Native.Nat.{_-_, _*_, _≤_}
 use native.Mathlib.Omega.{arith}
 use lib.ListN.{length, take}
 use Rattle.lists.specs.Bytes.{words}

@@ -10,11 +10,6 @@ use Rattle.finding.proofs.Laws.{size-most, inside-at, shown-long, reads
 use borrow.Author.Needs.{needs}
 use Rattle.finding.proofs.find.Statement.{statement}
 use Rattle.finding.proofs.find.Tie as tie
-use Rattle.finding.proofs.find.Reads as reads
-use Rattle.finding.proofs.find.Lts as lts
-use Rattle.compare.proofs.first_difference.Reads as first-difference-reads
-use Rattle.finding.proofs.show.Reads as show-reads
-use Rattle.reading.proofs.read_values.Reads as read-values-reads
 
 -- the spot lies in the lists of both transcripts
 in-one : (c : tie.After-first-difference) → Inside (length (c .before .before .before .before .before .before .before .before .before .before .before .args .lists1 .now)) (length (c .before .before .before .before .before .before .before .before .before .before .before .args .inputs1 .now)) (c .first-difference .result)
@@ -23,27 +18,22 @@ in-one c = inside-at _ (c .before .before .before .before .before .before .befor
 in-two : (c : tie.After-first-difference) → Inside (length (c .before .before .before .before .before .before .before .before .before .before .before .args .lists2 .now)) (length (c .before .before .before .before .before .before .before .before .before .before .before .args .inputs2 .now)) (c .first-difference .result)
 in-two c = inside-at _ (c .before .before .before .before .before .before .before .before .before .before .before .pre .1 .1 .1 .0) (c .before .before .before .before .before .before .before .before .before .before .before .pre .1 .1 .1 .1 .1 .0) (c .first-difference .ensures .1)
 
--- src/lib.rt:64:9
 first-difference-requires : tie.Need-first-difference-requires
 first-difference-requires c κs =
     let p = c .before .before .before .before .before .before .before .before .before .before .pre in
     (p .0, (p .1 .1 .0, (p .1 .1 .1 .0, (p .1 .1 .1 .1 .0, p .1 .1 .1 .1 .1 .0))))
 
--- src/lib.rt:66:9
 read-values-requires : tie.Need-read-values-requires
 read-values-requires c κs =
     let p = c .before .before .before .before .before .before .before .before .before .before .before .before .before .before .before .pre in
     (p .0, (p .1 .1 .1 .1 .1 .1 .1 .0, (p .1 .1 .1 .1 .1 .1 .0, (p .1 .1 .1 .1 .1 .1 .1 .1 .1 .1 .0, (p .1 .1 .1 .1 .1 .1 .1 .1 .1 .1 .1, p .1 .0)))))
 
--- src/lib.rt:66:9
 same-length : tie.Need-same-length
 same-length c = search needs
 
--- src/lib.rt:66:9
 same-length-2 : tie.Need-same-length-2
 same-length-2 c = search needs
 
--- src/lib.rt:66:9
 returns : tie.Need-returns
 returns c =
     let s = c .before .before .before .before .before .before .before .before .before .before .before .before .before .before .before .before .before .before .before .before in
@@ -53,15 +43,12 @@ returns c =
     let r = c .before .before .before .before .read-values .ensures P R (known .joined) in
     reads-values K P R (s .args .e) (s .args .hash1 .now) (s .args .hash2 .now) (z .none (c .before .before .before .before .before .before .before .if1 .taken) (values K P R (s .args .e))) (r .0) (r .1) (r .2)
 
--- src/lib.rt:69:33
 slice-relend-prefix-show : tie.Need-slice-relend-prefix-show
 slice-relend-prefix-show c = omega (arith, c .before .before .first-difference .ensures .1 .short, c .before .before .before .before .before .before .before .before .before .before .before .before .before .pre .1 .1 .1 .1 .1 .1 .1 .1 .0)
 
--- src/lib.rt:69:33
 slice-aggregate-show : tie.Need-slice-aggregate-show
 slice-aggregate-show c = sym (length-take-le (c .before .before .before .first-difference .result .length) (c .before .before .before .before .before .before .before .before .before .before .before .before .before .before .args .hash1 .now) (omega (arith, c .before .before .before .first-difference .ensures .1 .short, c .before .before .before .before .before .before .before .before .before .before .before .before .before .before .pre .1 .1 .1 .1 .1 .1 .1 .1 .0)))
 
--- src/lib.rt:69:5
 show-requires : tie.Need-show-requires
 show-requires c κs =
     let s = c .before .before .before .before .before .before .before .before .before .before .before .before .before .before in
@@ -70,15 +57,12 @@ show-requires c κs =
       (in-one (c .before .before .before), length-take-le (c .before .before .before .first-difference .result .length) (s .args .hash1 .now) (omega (arith, c .before .before .before .first-difference .ensures .1 .short, p .1 .1 .1 .1 .1 .1 .1 .1 .0))),
     )
 
--- src/lib.rt:70:33
 slice-relend-prefix-show-2 : tie.Need-slice-relend-prefix-show-2
 slice-relend-prefix-show-2 c = omega (arith, c .before .before .before .before .before .before .first-difference .ensures .1 .short, c .before .before .before .before .before .before .before .before .before .before .before .before .before .before .before .before .before .pre .1 .1 .1 .1 .1 .1 .1 .1 .1 .0)
 
--- src/lib.rt:70:33
 slice-aggregate-show-2 : tie.Need-slice-aggregate-show-2
 slice-aggregate-show-2 c = sym (length-take-le (c .before .before .before .before .before .before .before .first-difference .result .length) (c .before .before .before .before .before .before .before .before .before .before .before .before .before .before .before .before .before .before .args .hash2 .now) (omega (arith, c .before .before .before .before .before .before .before .first-difference .ensures .1 .short, c .before .before .before .before .before .before .before .before .before .before .before .before .before .before .before .before .before .before .pre .1 .1 .1 .1 .1 .1 .1 .1 .1 .0)))
 
--- src/lib.rt:70:5
 show-requires-2 : tie.Need-show-requires-2
 show-requires-2 c κs =
     let s = c .before .before .before .before .before .before .before .before .before .before .before .before .before .before .before .before .before .before in
@@ -87,19 +71,15 @@ show-requires-2 c κs =
       (in-two (c .before .before .before .before .before .before .before), length-take-le (c .before .before .before .before .before .before .before .first-difference .result .length) (s .args .hash2 .now) (omega (arith, c .before .before .before .before .before .before .before .first-difference .ensures .1 .short, p .1 .1 .1 .1 .1 .1 .1 .1 .1 .0))),
     )
 
--- src/lib.rt:71:35
 add-t27 : tie.Need-add-t27
 add-t27 c = omega (arith, c .before .before .before .before .before .before .before .before .before .before .before .before .before .before .before .before .before .before .before .before .before .pre .1 .0)
 
--- src/lib.rt:33:1
 same-length-3 : tie.Need-same-length-3
 same-length-3 c = search needs
 
--- src/lib.rt:33:1
 same-length-4 : tie.Need-same-length-4
 same-length-4 c = search needs
 
--- src/lib.rt:33:1
 returns-2 : tie.Need-returns-2
 returns-2 c =
     let s = c .before .before .before .before .before .before .before .before .before .before .before .before .before .before .before .before .before .before .before .before .before in

@@ -6,59 +6,43 @@ use Rattle.finding.proofs.Laws.{spot-most, in-lists, in-inputs, shown-l
 use borrow.Author.Needs.{needs}
 use Rattle.finding.proofs.show.Statement.{statement}
 use Rattle.finding.proofs.show.Tie as tie
-use Rattle.finding.proofs.show.Reads as reads
-use Rattle.finding.proofs.show.Lts as lts
-use Rattle.streams.proofs.copy.Reads as copy-reads
 
--- src/lib.rt:24:14
 add-to : tie.Need-add-to
 add-to c = omega (arith, spot-most (length (c .before .before .before .before .args .lists .now)) (length (c .before .before .before .before .args .inputs .now)) (c .before .before .before .before .args .spot) (c .before .before .before .before .pre .1 .0) (c .before .before .before .before .pre .0 .0) (c .before .before .before .before .pre .0 .1))
 
--- src/lib.rt:26:23
 sub-copy : tie.Need-sub-copy
 sub-copy c = search needs
 
--- src/lib.rt:26:23
 part-copy-start : tie.Need-part-copy-start
 part-copy-start c = search needs
 
--- src/lib.rt:26:23
 part-copy-end : tie.Need-part-copy-end
 part-copy-end c = omega (arith, in-lists (length (c .before .before .before .before .before .args .lists .now)) (length (c .before .before .before .before .before .args .inputs .now)) (c .before .before .before .before .before .args .spot) (c .before .before .before .before .before .pre .1 .0) (c .if1 .taken))
 
--- src/lib.rt:26:9
 copy-requires : tie.Need-copy-requires
 copy-requires c κs = search needs
 
--- src/lib.rt:27:9
 same-length : tie.Need-same-length
 same-length c = search needs
 
--- src/lib.rt:27:9
 returns : tie.Need-returns
 returns c = c .before .before .copy .ensures ∙ shown-lists (c .before .before .before .before .before .before .before .before .before .before .args .spot) (c .before .before .before .before .before .before .before .before .before .before .args .lists .now) (c .before .before .before .before .before .before .before .before .before .before .args .inputs .now) (c .before .before .before .before .before .if1 .taken)
 
--- src/lib.rt:29:19
 sub-copy-2 : tie.Need-sub-copy-2
 sub-copy-2 c = search needs
 
--- src/lib.rt:29:19
 part-copy-start-2 : tie.Need-part-copy-start-2
 part-copy-start-2 c = search needs
 
--- src/lib.rt:29:19
 part-copy-end-2 : tie.Need-part-copy-end-2
 part-copy-end-2 c = omega (arith, in-inputs (length (c .before .before .before .before .before .args .lists .now)) (length (c .before .before .before .before .before .args .inputs .now)) (c .before .before .before .before .before .args .spot) (c .before .before .before .before .before .pre .1 .0) (c .if1 .left))
 
--- src/lib.rt:29:5
 copy-requires-2 : tie.Need-copy-requires-2
 copy-requires-2 c κs = search needs
 
--- src/lib.rt:18:1
 same-length-2 : tie.Need-same-length-2
 same-length-2 c = search needs
 
--- src/lib.rt:18:1
 returns-2 : tie.Need-returns-2
 returns-2 c = c .before .before .copy2 .ensures ∙ shown-inputs (c .before .before .before .before .before .before .before .before .before .before .args .spot) (c .before .before .before .before .before .before .before .before .before .before .args .lists .now) (c .before .before .before .before .before .before .before .before .before .before .args .inputs .now) (c .before .before .before .before .before .if1 .left)
 

@@ -3,16 +3,12 @@ use mathlib.Core.Path.{_≡_, refl, _∙_}
 use Prim.Native.Nat.{_*_, _-_, _≤_}
 use native.Mathlib.Omega.{arith}
 use lib.ListN.{length}
+use Rattle.lists.specs.Written.{Built, built-all, built-at, built-item, built-none}
 use Rattle.views.specs.Seen.{gammaAt}
-use Rattle.inputs.specs.Steps.{Built}
-use Rattle.inputs.proofs.Laws.{built-none, built-more, built-all, built-at, h-label, within}
+use Rattle.inputs.proofs.Laws.{h-label, within}
 use borrow.Author.Needs.{needs}
 use Rattle.inputs.proofs.h_input.Statement.{statement}
 use Rattle.inputs.proofs.h_input.Tie as tie
-use Rattle.inputs.proofs.h_input.Reads as reads
-use Rattle.inputs.proofs.h_input.Lts as lts
-use Rattle.streams.proofs.copy.Reads as copy-reads
-use Rattle.views.proofs.parties.gamma_at.Reads as gamma-at-reads
 
 abbrev Inv-loop : tie.InvT-loop
 Inv-loop m parties hidden execution given leaves work out₀ i₀ out i = (i ≤ parties) × (length out ≡ length out₀) × Built (gammaAt m parties hidden execution given leaves work) i (32 * i) out₀ out
@@ -20,65 +16,51 @@ Inv-loop m parties hidden execution given leaves work out₀ i₀ out i = (i ≤
 abbrev μ-loop : tie.MeasureT-loop
 μ-loop m parties hidden execution given leaves work out₀ i₀ out i = parties - i
 
--- src/lib.rt:136:5
 loop-holds : tie.Need-loop-holds Inv-loop μ-loop
 loop-holds c = (search needs, refl, built-none _ _)
 
--- src/lib.rt:137:18
 mul-at : tie.Need-mul-at Inv-loop μ-loop
 mul-at c = search needs
 
--- src/lib.rt:138:19
 add-end : tie.Need-add-end Inv-loop μ-loop
 add-end c = search needs
 
--- src/lib.rt:139:17
 gamma-at-requires : tie.Need-gamma-at-requires Inv-loop μ-loop
 gamma-at-requires c κs =
     let p = c .before .before .before .before .before .before .pre in
     (p .0, (c .loop-test .taken, (p .1 .0, (p .1 .1 .0, p .1 .1 .1 .0))))
 
--- src/lib.rt:140:23
 slice-aggregate-copy : tie.Need-slice-aggregate-copy Inv-loop μ-loop
 slice-aggregate-copy c = search needs
 
--- src/lib.rt:140:27
 sub-copy : tie.Need-sub-copy Inv-loop μ-loop
 sub-copy c = search needs
 
--- src/lib.rt:140:27
 part-copy-start : tie.Need-part-copy-start Inv-loop μ-loop
 part-copy-start c = search needs
 
--- src/lib.rt:140:27
 part-copy-end : tie.Need-part-copy-end Inv-loop μ-loop
 part-copy-end c = search needs
 
--- src/lib.rt:140:9
 copy-requires : tie.Need-copy-requires Inv-loop μ-loop
 copy-requires c κs = search needs
 
--- src/lib.rt:141:9
 add-i : tie.Need-add-i Inv-loop μ-loop
 add-i c = search needs
 
--- src/lib.rt:136:5
 loop-less : tie.Need-loop-less Inv-loop μ-loop
 loop-less c = search needs
 
--- src/lib.rt:136:5
 loop-again : tie.Need-loop-again Inv-loop μ-loop
 loop-again c =
     let l = c .before .before .before .before .before .before .before .loop in
     let n = c .before .before .copy in
     let long = n .kept .1 .0 ∙ within (l .out) (32 * l .i) 32 (omega arith) in
-    (search needs, search needs, built-at (omega arith) (built-more 32 _ (l .inv .2) (n .ensures ∙ c .before .before .before .before .before .gamma-at .ensures) long))
+    (search needs, search needs, built-at (omega arith) (built-item 32 _ (l .inv .2) (n .ensures ∙ c .before .before .before .before .before .gamma-at .ensures) long))
 
--- src/lib.rt:118:1
 same-length : tie.Need-same-length Inv-loop μ-loop
 same-length c = search needs
 
--- src/lib.rt:118:1
 returns : tie.Need-returns Inv-loop μ-loop
 returns c =
     let l = c .before .loop in

@@ -5,79 +5,58 @@ use Rattle.inputs.proofs.Laws.{last-in, last-room}
 use borrow.Author.Needs.{needs}
 use Rattle.inputs.proofs.last_gamma.Statement.{statement}
 use Rattle.inputs.proofs.last_gamma.Tie as tie
-use Rattle.inputs.proofs.last_gamma.Reads as reads
-use Rattle.inputs.proofs.last_gamma.Lts as lts
-use Rattle.inputs.proofs.gamma_input.Reads as gamma-input-reads
 
--- src/lib.rt:90:16
 sub-last : tie.Need-sub-last
 sub-last c = search needs
 
--- src/lib.rt:91:16
 mul-from : tie.Need-mul-from
 mul-from c = search needs
 
--- src/lib.rt:92:14
 add-to : tie.Need-add-to
 add-to c = search needs
 
--- src/lib.rt:93:17
 mul-start : tie.Need-mul-start
 mul-start c = search needs
 
--- src/lib.rt:93:17
 mul-start-2 : tie.Need-mul-start-2
 mul-start-2 c = omega (arith, last-room (c .before .before .before .pre .0) .0, last-room (c .before .before .before .pre .0) .1)
 
--- src/lib.rt:93:17
 add-start : tie.Need-add-start
 add-start c = omega (arith, last-room (c .before .before .before .pre .0) .0, last-room (c .before .before .before .pre .0) .1)
 
--- src/lib.rt:94:15
 add-end : tie.Need-add-end
 add-end c = omega (arith, last-room (c .before .before .before .pre .0) .0, last-room (c .before .before .before .pre .0) .1)
 
--- src/lib.rt:95:17
 add-gamma-input : tie.Need-add-gamma-input
 add-gamma-input c = search needs
 
--- src/lib.rt:95:41
 sub-gamma-input : tie.Need-sub-gamma-input
 sub-gamma-input c = search needs
 
--- src/lib.rt:95:41
 part-gamma-input-start : tie.Need-part-gamma-input-start
 part-gamma-input-start c = search needs
 
--- src/lib.rt:95:41
 part-gamma-input-end : tie.Need-part-gamma-input-end
 part-gamma-input-end c = search needs
 
--- src/lib.rt:95:60
 mul-gamma-input : tie.Need-mul-gamma-input
 mul-gamma-input c = omega (arith, last-room (c .before .before .before .before .pre .0) .0, last-room (c .before .before .before .before .pre .0) .1)
 
--- src/lib.rt:95:60
 sub-gamma-input-2 : tie.Need-sub-gamma-input-2
 sub-gamma-input-2 c = search needs
 
--- src/lib.rt:95:60
 part-gamma-input-start-2 : tie.Need-part-gamma-input-start-2
 part-gamma-input-start-2 c = search needs
 
--- src/lib.rt:95:60
 part-gamma-input-end-2 : tie.Need-part-gamma-input-end-2
 part-gamma-input-end-2 c = omega (arith, last-room (c .before .before .before .before .pre .0) .0, last-room (c .before .before .before .before .pre .0) .1)
 
--- src/lib.rt:95:5
 gamma-input-requires : tie.Need-gamma-input-requires
 gamma-input-requires c κs = search needs
 
--- src/lib.rt:76:1
 same-length : tie.Need-same-length
 same-length c = search needs
 
--- src/lib.rt:76:1
 returns : tie.Need-returns
 returns c = c .before .before .gamma-input .ensures ∙ last-in _ _ _ _ _ (c .before .before .before .before .before .before .before .before .before .pre .0 .least)
 

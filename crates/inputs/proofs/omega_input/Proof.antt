@@ -5,79 +5,58 @@ use Rattle.inputs.proofs.Laws.{omega-in, last-room}
 use borrow.Author.Needs.{needs}
 use Rattle.inputs.proofs.omega_input.Statement.{statement}
 use Rattle.inputs.proofs.omega_input.Tie as tie
-use Rattle.inputs.proofs.omega_input.Reads as reads
-use Rattle.inputs.proofs.omega_input.Lts as lts
-use Rattle.inputs.proofs.put_with_block.Reads as put-with-block-reads
 
--- src/lib.rt:160:16
 sub-last : tie.Need-sub-last
 sub-last c = search needs
 
--- src/lib.rt:161:16
 mul-from : tie.Need-mul-from
 mul-from c = search needs
 
--- src/lib.rt:162:14
 add-to : tie.Need-add-to
 add-to c = search needs
 
--- src/lib.rt:163:17
 mul-start : tie.Need-mul-start
 mul-start c = search needs
 
--- src/lib.rt:163:17
 mul-start-2 : tie.Need-mul-start-2
 mul-start-2 c = omega (arith, last-room (c .before .before .before .pre .0) .0, last-room (c .before .before .before .pre .0) .1)
 
--- src/lib.rt:163:32
 mul-start-3 : tie.Need-mul-start-3
 mul-start-3 c = search needs
 
--- src/lib.rt:163:17
 add-start : tie.Need-add-start
 add-start c = omega (arith, last-room (c .before .before .before .pre .0) .0, last-room (c .before .before .before .pre .0) .1)
 
--- src/lib.rt:164:15
 add-end : tie.Need-add-end
 add-end c = omega (arith, last-room (c .before .before .before .pre .0) .0, last-room (c .before .before .before .pre .0) .1)
 
--- src/lib.rt:165:20
 mul-put-with-block : tie.Need-mul-put-with-block
 mul-put-with-block c = omega (arith, last-room (c .before .before .before .pre .0) .0, last-room (c .before .before .before .pre .0) .1)
 
--- src/lib.rt:165:20
 sub-put-with-block : tie.Need-sub-put-with-block
 sub-put-with-block c = search needs
 
--- src/lib.rt:165:20
 part-put-with-block-start : tie.Need-part-put-with-block-start
 part-put-with-block-start c = search needs
 
--- src/lib.rt:165:20
 part-put-with-block-end : tie.Need-part-put-with-block-end
 part-put-with-block-end c = omega (arith, last-room (c .before .before .before .pre .0) .0, last-room (c .before .before .before .pre .0) .1)
 
--- src/lib.rt:165:39
 sub-put-with-block-2 : tie.Need-sub-put-with-block-2
 sub-put-with-block-2 c = search needs
 
--- src/lib.rt:165:39
 part-put-with-block-start-2 : tie.Need-part-put-with-block-start-2
 part-put-with-block-start-2 c = search needs
 
--- src/lib.rt:165:39
 part-put-with-block-end-2 : tie.Need-part-put-with-block-end-2
 part-put-with-block-end-2 c = search needs
 
--- src/lib.rt:165:5
 put-with-block-requires : tie.Need-put-with-block-requires
 put-with-block-requires c κs = search needs
 
--- src/lib.rt:146:1
 same-length : tie.Need-same-length
 same-length c = search needs
 
--- src/lib.rt:146:1
 returns : tie.Need-returns
 returns c = c .before .before .put-with-block .ensures ∙ omega-in _ _ _ _ _
 

@@ -3,14 +3,12 @@ use mathlib.Core.Path.{_≡_, refl, _∙_}
 use Prim.Native.Nat.{_*_, _-_, _≤_}
 use native.Mathlib.Omega.{arith}
 use lib.ListN.{length}
-use Rattle.inputs.specs.Steps.{Built, otherIn}
-use Rattle.inputs.proofs.Laws.{built-none, built-more, built-all, built-at, other-in, within}
+use Rattle.lists.specs.Written.{Built, built-all, built-at, built-item, built-none}
+use Rattle.inputs.specs.Steps.{otherIn}
+use Rattle.inputs.proofs.Laws.{other-in, within}
 use borrow.Author.Needs.{needs}
 use Rattle.inputs.proofs.other_gammas.Statement.{statement}
 use Rattle.inputs.proofs.other_gammas.Tie as tie
-use Rattle.inputs.proofs.other_gammas.Reads as reads
-use Rattle.inputs.proofs.other_gammas.Lts as lts
-use Rattle.inputs.proofs.gamma_input.Reads as gamma-input-reads
 
 abbrev Inv-loop : tie.InvT-loop
 Inv-loop count execution leaves work out₀ i₀ out i = (i ≤ count) × (length out ≡ length out₀) × Built (otherIn execution leaves) i (32 * i) out₀ out
@@ -18,87 +16,67 @@ Inv-loop count execution leaves work out₀ i₀ out i = (i ≤ count) × (lengt
 abbrev μ-loop : tie.MeasureT-loop
 μ-loop count execution leaves work out₀ i₀ out i = count - i
 
--- src/lib.rt:59:5
 loop-holds : tie.Need-loop-holds Inv-loop μ-loop
 loop-holds c = (search needs, refl, built-none _ _)
 
--- src/lib.rt:60:20
 mul-from : tie.Need-mul-from Inv-loop μ-loop
 mul-from c = search needs
 
--- src/lib.rt:61:18
 add-to : tie.Need-add-to Inv-loop μ-loop
 add-to c = search needs
 
--- src/lib.rt:62:18
 mul-at : tie.Need-mul-at Inv-loop μ-loop
 mul-at c = search needs
 
--- src/lib.rt:63:19
 add-end : tie.Need-add-end Inv-loop μ-loop
 add-end c = search needs
 
--- src/lib.rt:65:13
 add-gamma-input : tie.Need-add-gamma-input Inv-loop μ-loop
 add-gamma-input c = search needs
 
--- src/lib.rt:66:13
 add-gamma-input-2 : tie.Need-add-gamma-input-2 Inv-loop μ-loop
 add-gamma-input-2 c = search needs
 
--- src/lib.rt:67:13
 sub-gamma-input : tie.Need-sub-gamma-input Inv-loop μ-loop
 sub-gamma-input c = search needs
 
--- src/lib.rt:67:13
 part-gamma-input-start : tie.Need-part-gamma-input-start Inv-loop μ-loop
 part-gamma-input-start c = search needs
 
--- src/lib.rt:67:13
 part-gamma-input-end : tie.Need-part-gamma-input-end Inv-loop μ-loop
 part-gamma-input-end c = search needs
 
--- src/lib.rt:68:13
 slice-aggregate-gamma-input : tie.Need-slice-aggregate-gamma-input Inv-loop μ-loop
 slice-aggregate-gamma-input c = search needs
 
--- src/lib.rt:69:13
 sub-gamma-input-2 : tie.Need-sub-gamma-input-2 Inv-loop μ-loop
 sub-gamma-input-2 c = search needs
 
--- src/lib.rt:69:13
 part-gamma-input-start-2 : tie.Need-part-gamma-input-start-2 Inv-loop μ-loop
 part-gamma-input-start-2 c = search needs
 
--- src/lib.rt:69:13
 part-gamma-input-end-2 : tie.Need-part-gamma-input-end-2 Inv-loop μ-loop
 part-gamma-input-end-2 c = search needs
 
--- src/lib.rt:64:9
 gamma-input-requires : tie.Need-gamma-input-requires Inv-loop μ-loop
 gamma-input-requires c κs = search needs
 
--- src/lib.rt:71:9
 add-i : tie.Need-add-i Inv-loop μ-loop
 add-i c = search needs
 
--- src/lib.rt:59:5
 loop-less : tie.Need-loop-less Inv-loop μ-loop
 loop-less c = search needs
 
--- src/lib.rt:59:5
 loop-again : tie.Need-loop-again Inv-loop μ-loop
 loop-again c =
     let l = c .before .before .before .before .before .before .before .loop in
     let n = c .before .before .gamma-input in
     let long = n .kept .1 .1 .1 .1 .0 ∙ within (l .out) (32 * l .i) 32 (omega arith) in
-    (search needs, search needs, built-at (omega arith) (built-more 32 _ (l .inv .2) (n .ensures ∙ other-in _ _ _) long))
+    (search needs, search needs, built-at (omega arith) (built-item 32 _ (l .inv .2) (n .ensures ∙ other-in _ _ _) long))
 
--- src/lib.rt:52:1
 same-length : tie.Need-same-length Inv-loop μ-loop
 same-length c = search needs
 
--- src/lib.rt:52:1
 returns : tie.Need-returns Inv-loop μ-loop
 returns c =
     let l = c .before .loop in

@@ -5,51 +5,36 @@ use borrow.Author.Needs.{needs}
 use Rattle.kept.proofs.Laws.{answered, shared-stated, shared-for-Π}
 use Rattle.kept.proofs.answer.Statement.{statement}
 use Rattle.kept.proofs.answer.Tie as tie
-use Rattle.kept.proofs.answer.Reads as reads
-use Rattle.kept.proofs.answer.Lts as lts
-use Rattle.bytes4.proofs.le32.Reads as le32-reads
-use Rattle.outputs.proofs.outputs.Reads as outputs-reads
-use Rattle.views.proofs.answers.pi_of.Reads as pi-of-reads
-use Rattle.views.proofs.outputs.psi_of.Reads as psi-of-reads
-use Rattle.views.proofs.outputs.sum_is_zero.Reads as sum-is-zero-reads
 
--- src/lib.rt:55:9
 pi-of-requires : tie.Need-pi-of-requires
 pi-of-requires c κs =
     let p = c .before .before .before .before .before .before .before .before .pre in
     (p .0, (p .1 .1 .1 .1 .1 .1 .1 .1 .1 .0, (p .1 .1 .1 .0, ((λ _. omega (arith, p .1 .1 .1 .1 .0)), (p .1 .1 .1 .1 .1 .0, (p .1 .1 .1 .1 .1 .1 .1 .1 .0, p .1 .1 .1 .1 .1 .1 .1 .1 .1 .1 .0))))))
 
--- src/lib.rt:56:9
 le32-requires : tie.Need-le32-requires
 le32-requires c κs = search needs
 
--- src/lib.rt:57:5
 outputs-requires : tie.Need-outputs-requires
 outputs-requires c κs =
     let p = c .before .before .before .before .before .before .before .before .before .before .before .before .before .before .pre in
     (p .0, (p .1 .0, (p .1 .1 .0, (p .1 .1 .1 .0, (p .1 .1 .1 .1 .1 .1 .0, (p .1 .1 .1 .1 .1 .1 .1 .0, (search needs, (p .1 .1 .1 .1 .1 .1 .1 .1 .0, (p .1 .1 .1 .1 .1 .1 .1 .1 .1 .0, search needs)))))))))
 
--- src/lib.rt:58:9
 psi-of-requires : tie.Need-psi-of-requires
 psi-of-requires c κs =
     let p = c .before .before .before .before .before .before .before .before .before .before .before .before .before .before .before .before .before .before .pre in
     (p .1 .1 .1 .0, p .1 .1 .1 .1 .1 .0)
 
--- src/lib.rt:59:9
 sum-is-zero-requires : tie.Need-sum-is-zero-requires
 sum-is-zero-requires c κs =
     let p = c .before .before .before .before .before .before .before .before .before .before .before .before .before .before .before .before .before .before .before .before .pre in
     (p .0 .q-listed, omega (arith, p .0 .N-most, p .1 .1 .1 .1 .1 .1 .1 .1 .1 .1 .1))
 
--- src/lib.rt:26:1
 same-length : tie.Need-same-length
 same-length c = search needs
 
--- src/lib.rt:26:1
 same-length-2 : tie.Need-same-length-2
 same-length-2 c = search needs
 
--- src/lib.rt:26:1
 returns : tie.Need-returns
 returns c =
     let a = c .before .before .before .before .before .before .before .before .before .before .before .before .before .before .before .before .before .before .before .before .before .args in

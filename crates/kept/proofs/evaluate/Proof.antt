@@ -10,71 +10,51 @@ use borrow.Author.Needs.{needs}
 use Rattle.kept.proofs.Laws.{evaluates, kept-for-h, kept-for-Ω, kept-shared}
 use Rattle.kept.proofs.evaluate.Statement.{statement}
 use Rattle.kept.proofs.evaluate.Tie as tie
-use Rattle.kept.proofs.evaluate.Reads as reads
-use Rattle.kept.proofs.evaluate.Lts as lts
-use Rattle.kept.proofs.answer.Reads as answer-reads
-use Rattle.views.proofs.parties.h_of.Reads as h-of-reads
-use Rattle.views.proofs.parties.omega_of.Reads as omega-of-reads
 
--- src/lib.rt:102:17
 mul-seeds : tie.Need-mul-seeds
 mul-seeds c = search needs
 
--- src/lib.rt:103:19
 add-numbers : tie.Need-add-numbers
 add-numbers c = search needs
 
--- src/lib.rt:104:65
 sub-h-of : tie.Need-sub-h-of
 sub-h-of c = search needs
 
--- src/lib.rt:104:65
 part-h-of-start : tie.Need-part-h-of-start
 part-h-of-start c = search needs
 
--- src/lib.rt:104:65
 part-h-of-end : tie.Need-part-h-of-end
 part-h-of-end c = search needs
 
--- src/lib.rt:104:9
 h-of-requires : tie.Need-h-of-requires
 h-of-requires c κs = search needs
 
--- src/lib.rt:105:9
 omega-of-requires : tie.Need-omega-of-requires
 omega-of-requires c κs = search needs
 
--- src/lib.rt:115:9
 sub-answer : tie.Need-sub-answer
 sub-answer c = search needs
 
--- src/lib.rt:115:9
 part-answer-start : tie.Need-part-answer-start
 part-answer-start c = search needs
 
--- src/lib.rt:115:9
 part-answer-end : tie.Need-part-answer-end
 part-answer-end c = search needs
 
--- src/lib.rt:120:9
 slice-aggregate-answer : tie.Need-slice-aggregate-answer
 slice-aggregate-answer c = search needs
 
--- src/lib.rt:121:9
 array-borrow-prefix-outs : tie.Need-array-borrow-prefix-outs
 array-borrow-prefix-outs c = search needs
 
--- src/lib.rt:121:9
 slice-aggregate-answer-2 : tie.Need-slice-aggregate-answer-2
 slice-aggregate-answer-2 c = sym (length-take-le _ (replicate 32 0) (c .before .before .before .before .before .before .before .before .before .before .before .before .pre .0 .N-most))
 
--- src/lib.rt:108:9
 answer-requires : tie.Need-answer-requires
 answer-requires c κs =
     let p = c .before .before .before .before .before .before .before .before .before .before .before .before .pre in
     (p .0, (p .1 .0, (p .1 .1 .0, (p .1 .1 .1 .0, (search needs, (p .1 .1 .1 .1 .1 .0, (p .1 .1 .1 .1 .1 .1 .0, (p .1 .1 .1 .1 .1 .1 .1 .0, (p .1 .1 .1 .1 .1 .1 .1 .1 .1 .0, (p .1 .1 .1 .1 .1 .1 .1 .1 .1 .1 .0, (p .0 .m-most, length-take-le _ (replicate 32 0) (p .0 .N-most))))))))))))
 
--- src/lib.rt:73:1
 returns : tie.Need-returns
 returns c =
     let a = c .before .before .before .before .before .before .before .before .before .before .before .before .before .before .before .before .before .args in

@@ -4,33 +4,24 @@ use native.Mathlib.Omega.{arith}
 use borrow.Author.Needs.{needs}
 use Rattle.kept.proofs.kept_execution.Statement.{statement}
 use Rattle.kept.proofs.kept_execution.Tie as tie
-use Rattle.kept.proofs.kept_execution.Reads as reads
-use Rattle.kept.proofs.kept_execution.Lts as lts
-use Rattle.execution.proofs.prepare.reopen_kept.Reads as reopen-kept-reads
-use Rattle.kept.proofs.evaluate.Reads as evaluate-reads
 
--- src/lib.rt:161:5
 reopen-kept-requires : tie.Need-reopen-kept-requires
 reopen-kept-requires c κs =
     let p = c .before .before .before .before .before .before .before .before .pre in
     (p .0, (p .1 .1 .1 .1 .0, (p .1 .1 .1 .1 .1 .0, (p .1 .1 .1 .1 .1 .1 .0, (p .1 .1 .1 .1 .1 .1 .1 .0, (p .1 .1 .1 .1 .1 .1 .1 .1 .1 .1 .1 .0, p .1 .1 .1 .1 .1 .1 .1 .1 .1 .1 .1 .1))))))
 
--- src/lib.rt:162:5
 evaluate-requires : tie.Need-evaluate-requires
 evaluate-requires c κs =
     let p = c .before .before .before .before .before .before .before .before .before .before .before .before .before .before .before .pre in
     let made = c .before .before .before .before .before .before .reopen-kept .ensures in
     (p .0, (p .1 .0, (p .1 .1 .0, (p .1 .1 .1 .0, (omega (arith, p .1 .1 .1 .1 .1 .1 .0), (p .1 .1 .1 .1 .1 .1 .1 .1 .0, (p .1 .1 .1 .1 .1 .1 .1 .1 .1 .0, (p .1 .1 .1 .1 .1 .1 .1 .1 .1 .1 .0, (made .1 .1 .0 ∙ p .1 .1 .1 .1 .1 .1 .1 .1 .1 .1 .1 .0, (omega (arith, made .1 .1 .1, p .1 .1 .1 .1 .1 .1 .1 .1 .1 .1 .1 .1), (made .1 .0, made .0)))))))))))
 
--- src/lib.rt:129:1
 same-length : tie.Need-same-length
 same-length c = search needs
 
--- src/lib.rt:129:1
 same-length-2 : tie.Need-same-length-2
 same-length-2 c = search needs
 
--- src/lib.rt:129:1
 returns : tie.Need-returns
 returns c = search needs
 

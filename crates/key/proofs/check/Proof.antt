@@ -17,7 +17,7 @@ use Rattle.key.proofs.check.Statement.{statement}
 use Rattle.key.proofs.check.Tie as tie
 
 listed : (c : tie.Else2) → member (keyOf (c .before .before .before .before .before .args .key .now) .q) qs ≡ true
-listed c = ap (λ (q : ℕ). member q qs) (sym (c .before .before .six .ensures .q-is)) ∙ sym (c .before .modulus-listed .ensures) ∙ not-false _ (c .if2 .left)
+listed c = ap (λ (q : ℕ). member q qs) (sym (c .before .before .six .ensures .q-is)) ∙ sym (c .before .is-modulus .ensures) ∙ not-false _ (c .if2 .left)
 
 within : (c : tie.Else3) → holds (limits (keyOf (c .before .before .before .before .before .before .before .args .key .now))) ≡ true
 within c = sym (c .before .in-limits .ensures _ (c .before .before .before .before .six .ensures)) ∙ not-false _ (c .if3 .left)
@@ -40,11 +40,11 @@ returns c = number-1 _ _ (c .if1 .taken)
 six-requires : tie.Need-six-requires
 six-requires c κs = search needs
 
-modulus-listed-requires : tie.Need-modulus-listed-requires
-modulus-listed-requires c κs = search needs
+is-modulus-requires : tie.Need-is-modulus-requires
+is-modulus-requires c κs = search needs
 
 returns-2 : tie.Need-returns-2
-returns-2 c = number-2 _ _ (c .before .before .before .if1 .left) (ap (λ (q : ℕ). member q qs) (sym (c .before .before .six .ensures .q-is)) ∙ sym (c .before .modulus-listed .ensures) ∙ not-true _ (c .if2 .taken))
+returns-2 c = number-2 _ _ (c .before .before .before .if1 .left) (ap (λ (q : ℕ). member q qs) (sym (c .before .before .six .ensures .q-is)) ∙ sym (c .before .is-modulus .ensures) ∙ not-true _ (c .if2 .taken))
 
 in-limits-requires : tie.Need-in-limits-requires
 in-limits-requires c κs = search needs
@@ -79,7 +79,7 @@ check-spec =
     (tie.spec
     returns
     six-requires
-    modulus-listed-requires
+    is-modulus-requires
     returns-2
     in-limits-requires
     returns-3

@@ -4,8 +4,7 @@ use native.Mathlib.Omega.{arith}
 use borrow.Author.Tests.{not-true, not-false, le-leb, lt-leb, lt-ltb, le-ltb}
 use Prim.Native.Nat.{ℕ}
 use Rattle.lists.specs.Index.{member}
-use Rattle.lists.specs.TestLaws.{each-holds}
-use Rattle.lists.specs.ReadingExtra.{holds-fails}
+use Rattle.lists.specs.TestLaws.{each-holds, holds-fails}
 use Rattle.numbers.specs.Inverse.{Ns}
 use Rattle.protocol.specs.Key.{limits}
 use borrow.Author.Needs.{needs}
@@ -32,12 +31,12 @@ returns-5 : tie.Need-returns-5
 unfolding limits
 returns-5 c = λ K of. sym (holds-fails (limits K) 4 (le-ltb (K .n) (K .m) (omega arith)))
 
-parties-listed-requires : tie.Need-parties-listed-requires
-parties-listed-requires c κs = search needs
+is-parties-requires : tie.Need-is-parties-requires
+is-parties-requires c κs = search needs
 
 returns-6 : tie.Need-returns-6
 unfolding limits
-returns-6 c = λ K of. sym (holds-fails (limits K) 5 (ap (λ (p : ℕ). member p Ns) (sym (of .N-is)) ∙ sym (c .before .parties-listed .ensures) ∙ not-true _ (c .if6 .taken)))
+returns-6 c = λ K of. sym (holds-fails (limits K) 5 (ap (λ (p : ℕ). member p Ns) (sym (of .N-is)) ∙ sym (c .before .is-parties .ensures) ∙ not-true _ (c .if6 .taken)))
 
 returns-7 : tie.Need-returns-7
 unfolding limits
@@ -68,7 +67,7 @@ returns-11 c = λ K of. sym (each-holds (limits K) (
         (
           lt-ltb (K .n) (K .m) (omega arith),
           (
-            ap (λ (p : ℕ). member p Ns) (sym (of .N-is)) ∙ sym (c .before .before .before .before .before .before .before .before .before .parties-listed .ensures) ∙ not-false _ (c .before .before .before .before .before .before .before .before .if6 .left),
+            ap (λ (p : ℕ). member p Ns) (sym (of .N-is)) ∙ sym (c .before .before .before .before .before .before .before .before .before .is-parties .ensures) ∙ not-false _ (c .before .before .before .before .before .before .before .before .if6 .left),
             (le-leb 2 (K .M) (omega arith), (le-leb (K .M) 32 (omega arith), (le-leb 1 (K .τ) (omega arith), (lt-ltb (K .τ) (K .M) (omega arith), tt)))),
           ),
         ),
@@ -86,7 +85,7 @@ in-limits-spec =
     returns-3
     returns-4
     returns-5
-    parties-listed-requires
+    is-parties-requires
     returns-6
     returns-7
     returns-8

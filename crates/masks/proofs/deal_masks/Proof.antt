@@ -9,11 +9,6 @@ use Rattle.masks.proofs.Laws.{all-masked, dealt-masks-reduced}
 use borrow.Author.Needs.{needs}
 use Rattle.masks.proofs.deal_masks.Statement.{statement}
 use Rattle.masks.proofs.deal_masks.Tie as tie
-use Rattle.masks.proofs.deal_masks.Reads as reads
-use Rattle.masks.proofs.deal_masks.Lts as lts
-use Rattle.execution.proofs.shares.deal_s.Reads as deal-s-reads
-use Rattle.masks.proofs.draw_masks.Reads as draw-masks-reads
-use Rattle.tree.proofs.leaves.Reads as leaves-reads
 
 leaves-requires : tie.Need-leaves-requires
 leaves-requires c κs = search needs

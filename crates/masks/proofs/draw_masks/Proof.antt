@@ -9,9 +9,6 @@ use Rattle.masks.proofs.Laws.{masks-none, masks-next}
 use borrow.Author.Needs.{needs}
 use Rattle.masks.proofs.draw_masks.Statement.{statement}
 use Rattle.masks.proofs.draw_masks.Tie as tie
-use Rattle.masks.proofs.draw_masks.Reads as reads
-use Rattle.masks.proofs.draw_masks.Lts as lts
-use Rattle.masks.proofs.draw_row.Reads as draw-row-reads
 
 abbrev Inv-loop : tie.InvT-loop
 Inv-loop q m parties leaves work₀ i₀ work i = (i ≤ parties) × Masks q m parties leaves work i × (length work ≡ length work₀)

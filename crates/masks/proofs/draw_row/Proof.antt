@@ -4,13 +4,8 @@ use Prim.Native.Nat.{_+_, _*_, _≤_}
 use native.Mathlib.Omega.{arith}
 use Rattle.execution.proofs.Laws.{inside, small}
 use Rattle.masks.proofs.Laws.{row-last, row-other}
-use borrow.Author.Needs.{needs}
 use Rattle.masks.proofs.draw_row.Statement.{statement}
 use Rattle.masks.proofs.draw_row.Tie as tie
-use Rattle.masks.proofs.draw_row.Reads as reads
-use Rattle.masks.proofs.draw_row.Lts as lts
-use Rattle.masks.proofs.put_drawn.Reads as put-drawn-reads
-use Rattle.masks.proofs.put_zeros.Reads as put-zeros-reads
 
 -- party i's numbers end within all parties' numbers, of which there are few
 room : (c : tie.After-slice-known) → (3 * c .before .before .args .m * c .before .before .args .i + 3 * c .before .before .args .m ≤ 3 * c .before .before .args .m * c .before .before .args .parties)

@@ -5,9 +5,6 @@ use Rattle.execution.proofs.Laws.{part-long, put-filled}
 use borrow.Author.Needs.{needs}
 use Rattle.masks.proofs.put_drawn.Statement.{statement}
 use Rattle.masks.proofs.put_drawn.Tie as tie
-use Rattle.masks.proofs.put_drawn.Reads as reads
-use Rattle.masks.proofs.put_drawn.Lts as lts
-use Rattle.streams.proofs.fill.Reads as fill-reads
 
 add-to : tie.Need-add-to
 add-to c = search needs

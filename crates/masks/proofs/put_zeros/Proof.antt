@@ -7,8 +7,6 @@ use Rattle.execution.proofs.Laws.{put-none, put-next}
 use borrow.Author.Needs.{needs}
 use Rattle.masks.proofs.put_zeros.Statement.{statement}
 use Rattle.masks.proofs.put_zeros.Tie as tie
-use Rattle.masks.proofs.put_zeros.Reads as reads
-use Rattle.masks.proofs.put_zeros.Lts as lts
 
 abbrev Inv-loop : tie.InvT-loop
 Inv-loop count from work₀ j₀ work j = (j ≤ count) × Put from j (λ _. 0) work₀ work

@@ -1,3 +1,4 @@
+-- `digest` reads the key and hashes the executions' h(e). Assumes nothing.
 use mathlib.Core.Path.{sym, _∙_, ap}
 use Prim.Native.Nat.{_*_}
 use native.Mathlib.Omega.{arith}
@@ -6,11 +7,6 @@ use Rattle.prover.proofs.Laws.{limits-of, sized-of, three-of-four}
 use borrow.Author.Needs.{needs}
 use Rattle.message_1.proofs.digest.Statement.{statement}
 use Rattle.message_1.proofs.digest.Tie as tie
-use Rattle.message_1.proofs.digest.Reads as reads
-use Rattle.message_1.proofs.digest.Lts as lts
-use Rattle.key.proofs.depth.Reads as depth-reads
-use Rattle.key.proofs.numbers_of.Reads as numbers-of-reads
-use Rattle.message_1.proofs.h_gamma.Reads as h-gamma-reads
 
 numbers-of-requires : tie.Need-numbers-of-requires
 numbers-of-requires c κs = search needs

@@ -1,3 +1,4 @@
+-- `h_gamma` feeds h(e) of each execution. Invariant: the hash has h(1) .. h(x). Assumes nothing.
 use Prim.Native.Nat.{_*_, _+_}
 use Rattle.lists.specs.CatLaws.{part-length}
 use mathlib.Core.Path.{_≡_}
@@ -9,12 +10,6 @@ use Rattle.message_1.proofs.Laws.{h-none, h-more, h-all}
 use borrow.Author.Needs.{needs}
 use Rattle.message_1.proofs.h_gamma.Statement.{statement}
 use Rattle.message_1.proofs.h_gamma.Tie as tie
-use Rattle.message_1.proofs.h_gamma.Reads as reads
-use Rattle.message_1.proofs.h_gamma.Lts as lts
-use Rattle.execution.proofs.commit.begin.Reads as begin-reads
-use Rattle.rounds.proofs.opened_hash.Reads as opened-hash-reads
-use Rattle.sha.proofs.finish.Reads as finish-reads
-use Rattle.sha.proofs.update.Reads as update-reads
 
 abbrev Inv-loop : tie.InvT-loop
 Inv-loop q m parties executions depth seeds leaves₀ work₀ s₀ x₀ leaves work s x = (x ≤ executions) × (length leaves ≡ length leaves₀) × (length work ≡ length work₀) × FedH q m parties depth seeds s₀ x s

@@ -1,3 +1,4 @@
+-- `message_1` refuses in order, or writes the digest from the place on. Assumes nothing.
 use native.Mathlib.Omega.{arith}
 use Rattle.protocol.proofs.Sizes.{message1-length}
 use Rattle.prover.proofs.Laws.{refuses, writes, accepted1, passed1, seeds-long, end-within}
@@ -5,11 +6,6 @@ use mathlib.Core.Path.{_∙_}
 use borrow.Author.Needs.{needs}
 use Rattle.message_1.proofs.message_1.Statement.{statement}
 use Rattle.message_1.proofs.message_1.Tie as tie
-use Rattle.message_1.proofs.message_1.Reads as reads
-use Rattle.message_1.proofs.message_1.Lts as lts
-use Rattle.prover.proofs.checks.refusal_1.Reads as refusal-1-reads
-use Rattle.message_1.proofs.digest.Reads as digest-reads
-use Rattle.streams.proofs.copy.Reads as copy-reads
 
 refusal-1-requires : tie.Need-refusal-1-requires
 refusal-1-requires c κs = search needs

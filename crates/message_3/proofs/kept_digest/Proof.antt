@@ -1,13 +1,8 @@
+-- `kept_digest` hashes the list of each Π. Assumes nothing.
 use Rattle.message_3.proofs.Laws.{kept-part}
 use borrow.Author.Needs.{needs}
 use Rattle.message_3.proofs.kept_digest.Statement.{statement}
 use Rattle.message_3.proofs.kept_digest.Tie as tie
-use Rattle.message_3.proofs.kept_digest.Reads as reads
-use Rattle.message_3.proofs.kept_digest.Lts as lts
-use Rattle.execution.proofs.commit.begin.Reads as begin-reads
-use Rattle.message_3.proofs.kept_hashes.Reads as kept-hashes-reads
-use Rattle.sha.proofs.finish.Reads as finish-reads
-use Rattle.sha.proofs.update.Reads as update-reads
 
 kept-hashes-requires : tie.Need-kept-hashes-requires
 kept-hashes-requires c κs = search needs

@@ -1,3 +1,4 @@
+-- `kept_hashes` writes Ω and Π of each kept execution. Invariant: those of the executions before x stand in front of both lists. Assumes nothing.
 use mathlib.Core.Path.{_≡_, refl, sym, _∙_}
 use mathlib.Core.Bool.{not}
 use Prim.Native.Nat.{_*_, _-_, _≤_}
@@ -12,9 +13,6 @@ use Rattle.message_3.proofs.Laws.{kept-start, kept-more, kept-all}
 use borrow.Author.Needs.{needs}
 use Rattle.message_3.proofs.kept_hashes.Statement.{statement}
 use Rattle.message_3.proofs.kept_hashes.Tie as tie
-use Rattle.message_3.proofs.kept_hashes.Reads as reads
-use Rattle.message_3.proofs.kept_hashes.Lts as lts
-use Rattle.message_3.proofs.put_kept.Reads as put-kept-reads
 
 abbrev Inv-loop : tie.InvT-loop
 Inv-loop q m parties executions depth seeds secret e kappa leaves₀ work₀ out₀ pis₀ at₀ x₀ leaves work out pis at x =

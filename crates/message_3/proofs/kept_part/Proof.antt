@@ -1,12 +1,10 @@
+-- `kept_part` lends lists for the leaves and for each Π. Assumes nothing.
 use mathlib.Core.Path.{sym}
 use native.Mathlib.Omega.{arith}
 use lib.Seq.{length-take-le}
 use borrow.Author.Needs.{needs}
 use Rattle.message_3.proofs.kept_part.Statement.{statement}
 use Rattle.message_3.proofs.kept_part.Tie as tie
-use Rattle.message_3.proofs.kept_part.Reads as reads
-use Rattle.message_3.proofs.kept_part.Lts as lts
-use Rattle.message_3.proofs.kept_digest.Reads as kept-digest-reads
 
 mul-all : tie.Need-mul-all
 mul-all c = search needs

@@ -1,19 +1,17 @@
+-- `masters` copies the opened executions' seeds. Invariant: those of the executions before x stand in front. Assumes nothing.
 use mathlib.Core.Path.{_≡_, refl, _∙_}
 use mathlib.Core.List.{[]}
 use Prim.Native.Nat.{_*_, _-_, _≤_}
 use native.Mathlib.Omega.{arith}
 use lib.ListN.{length}
+use Rattle.lists.specs.Written.{Built, built-all, built-more, built-none}
 use Rattle.lists.specs.Index.{count, pick, part}
 use Rattle.lists.specs.TestLaws.{count-zero}
 use Rattle.protocol.specs.Prover.{opened}
-use Rattle.prover.specs.Parts.{Built}
-use Rattle.prover.proofs.Laws.{built-none, built-more, built-all, count-16, room-16, within-16}
+use Rattle.prover.proofs.Laws.{count-16, room-16, within-16}
 use borrow.Author.Needs.{needs}
 use Rattle.message_3.proofs.masters.Statement.{statement}
 use Rattle.message_3.proofs.masters.Tie as tie
-use Rattle.message_3.proofs.masters.Reads as reads
-use Rattle.message_3.proofs.masters.Lts as lts
-use Rattle.message_3.proofs.put_master.Reads as put-master-reads
 
 abbrev Inv-loop : tie.InvT-loop
 Inv-loop executions seeds e out₀ at₀ x₀ out at x = (x ≤ executions) × (at ≡ 16 * count x (opened e)) × (length out ≡ length out₀) × Built (λ j. pick (opened e j) (part seeds (16 * j) 16) []) x at out₀ out

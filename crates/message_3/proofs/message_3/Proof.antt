@@ -1,3 +1,4 @@
+-- `message_3` refuses in order, or writes the message from the place on. Assumes nothing.
 use mathlib.Core.Path.{_≡_}
 use Prim.Native.Nat.{_+_, _-_}
 use Rattle.lists.specs.CatLaws.{part-length}
@@ -8,12 +9,6 @@ use Rattle.prover.proofs.Laws.{refuses, writes, accepted3, passed3}
 use borrow.Author.Needs.{needs}
 use Rattle.message_3.proofs.message_3.Statement.{statement}
 use Rattle.message_3.proofs.message_3.Tie as tie
-use Rattle.message_3.proofs.message_3.Reads as reads
-use Rattle.message_3.proofs.message_3.Lts as lts
-use Rattle.key.proofs.numbers_of.Reads as numbers-of-reads
-use Rattle.prover.proofs.checks.refusal_3.Reads as refusal-3-reads
-use Rattle.prover.proofs.checks.size_3.Reads as size-3-reads
-use Rattle.message_3.proofs.write.Reads as write-reads
 
 refusal-3-requires : tie.Need-refusal-3-requires
 refusal-3-requires c κs = search needs

@@ -1,3 +1,4 @@
+-- `omega_and_pi` deals the execution and hashes it. Assumes nothing.
 use mathlib.Core.Path.{ap}
 use lib.ListN.{length}
 use mathlib.Core.Path.{_∙_}
@@ -6,12 +7,6 @@ use Rattle.message_3.proofs.Laws.{omega-of, pi-of}
 use borrow.Author.Needs.{needs}
 use Rattle.message_3.proofs.omega_and_pi.Statement.{statement}
 use Rattle.message_3.proofs.omega_and_pi.Tie as tie
-use Rattle.message_3.proofs.omega_and_pi.Reads as reads
-use Rattle.message_3.proofs.omega_and_pi.Lts as lts
-use Rattle.masks.proofs.deal_masks.Reads as deal-masks-reads
-use Rattle.streams.proofs.copy.Reads as copy-reads
-use Rattle.views.proofs.answers.pi_of.Reads as pi-of-reads
-use Rattle.views.proofs.parties.omega_of.Reads as omega-of-reads
 
 deal-masks-requires : tie.Need-deal-masks-requires
 deal-masks-requires c κs =

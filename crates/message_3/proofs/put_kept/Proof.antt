@@ -1,3 +1,4 @@
+-- `put_kept` writes at its place what a kept execution gives, and nothing for an opened one. Assumes nothing.
 use mathlib.Core.Path.{_≡_, sym, _∙_}
 use Prim.Native.Nat.{_*_, _+_, _-_}
 use native.Mathlib.Omega.{arith}
@@ -6,11 +7,6 @@ use Rattle.message_3.proofs.Laws.{kept-none, kept-some}
 use borrow.Author.Needs.{needs}
 use Rattle.message_3.proofs.put_kept.Statement.{statement}
 use Rattle.message_3.proofs.put_kept.Tie as tie
-use Rattle.message_3.proofs.put_kept.Reads as reads
-use Rattle.message_3.proofs.put_kept.Lts as lts
-use Rattle.forms.proofs.is_opened.Reads as is-opened-reads
-use Rattle.message_3.proofs.omega_and_pi.Reads as omega-and-pi-reads
-use Rattle.streams.proofs.copy.Reads as copy-reads
 
 is-opened-requires : tie.Need-is-opened-requires
 is-opened-requires c κs = search needs

@@ -1,3 +1,4 @@
+-- `put_master` copies an opened execution's seed, and nothing for a kept one. Assumes nothing.
 use mathlib.Core.Path.{_≡_, sym, _∙_, ap}
 use Prim.Native.Nat.{ℕ, _*_, _+_, _-_}
 use native.Mathlib.Omega.{arith}
@@ -8,10 +9,6 @@ use Rattle.prover.proofs.Laws.{put-none, put-some}
 use borrow.Author.Needs.{needs}
 use Rattle.message_3.proofs.put_master.Statement.{statement}
 use Rattle.message_3.proofs.put_master.Tie as tie
-use Rattle.message_3.proofs.put_master.Reads as reads
-use Rattle.message_3.proofs.put_master.Lts as lts
-use Rattle.forms.proofs.is_opened.Reads as is-opened-reads
-use Rattle.streams.proofs.copy.Reads as copy-reads
 
 is-opened-requires : tie.Need-is-opened-requires
 is-opened-requires c κs = search needs

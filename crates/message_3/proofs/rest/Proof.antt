@@ -1,3 +1,4 @@
+-- `rest` writes hπ after Ω of the kept executions. Assumes nothing.
 use mathlib.Core.Path.{sym, _∙_}
 use Prim.Native.Nat.{_-_}
 use native.Mathlib.Omega.{arith}
@@ -7,10 +8,6 @@ use Rattle.message_3.proofs.Laws.{rest-write}
 use borrow.Author.Needs.{needs}
 use Rattle.message_3.proofs.rest.Statement.{statement}
 use Rattle.message_3.proofs.rest.Tie as tie
-use Rattle.message_3.proofs.rest.Reads as reads
-use Rattle.message_3.proofs.rest.Lts as lts
-use Rattle.message_3.proofs.kept_part.Reads as kept-part-reads
-use Rattle.streams.proofs.copy.Reads as copy-reads
 
 sub-size : tie.Need-sub-size
 sub-size c = search needs

@@ -1,4 +1,5 @@
-use Rattle.prover.proofs.Laws.{later-part}
+-- `write` reads the key and writes the two halves of the message. Assumes nothing.
+use Rattle.lists.specs.Written.{later-part}
 use Rattle.message_3.proofs.Laws.{write-3}
 use mathlib.Core.Path.{sym, _∙_, ap}
 use Prim.Native.Nat.{_*_}
@@ -9,12 +10,6 @@ use Rattle.prover.proofs.Laws.{opened-room, kept-room, limits-of, sized-of, thr
 use borrow.Author.Needs.{needs}
 use Rattle.message_3.proofs.write.Statement.{statement}
 use Rattle.message_3.proofs.write.Tie as tie
-use Rattle.message_3.proofs.write.Reads as reads
-use Rattle.message_3.proofs.write.Lts as lts
-use Rattle.key.proofs.depth.Reads as depth-reads
-use Rattle.key.proofs.numbers_of.Reads as numbers-of-reads
-use Rattle.message_3.proofs.masters.Reads as masters-reads
-use Rattle.message_3.proofs.rest.Reads as rest-reads
 
 numbers-of-requires : tie.Need-numbers-of-requires
 numbers-of-requires c κs = search needs

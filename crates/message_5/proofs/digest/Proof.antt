@@ -1,3 +1,4 @@
+-- `digest` reads the key and hashes Ψ of the kept executions. Assumes nothing.
 use Prim.Native.Nat.{_*_}
 use mathlib.Core.Path.{sym, _∙_, ap}
 use native.Mathlib.Omega.{arith}
@@ -9,12 +10,6 @@ use Rattle.message_5.proofs.Laws.{keyed-of, rows-within}
 use borrow.Author.Needs.{needs}
 use Rattle.message_5.proofs.digest.Statement.{statement}
 use Rattle.message_5.proofs.digest.Tie as tie
-use Rattle.message_5.proofs.digest.Reads as reads
-use Rattle.message_5.proofs.digest.Lts as lts
-use Rattle.key.proofs.depth.Reads as depth-reads
-use Rattle.key.proofs.entries.Reads as entries-reads
-use Rattle.key.proofs.numbers_of.Reads as numbers-of-reads
-use Rattle.message_5.proofs.h_psi.Reads as h-psi-reads
 
 numbers-of-requires : tie.Need-numbers-of-requires
 numbers-of-requires c κs = search needs

@@ -1,3 +1,4 @@
+-- `feed_kept` feeds Ψ of a kept execution, and nothing for an opened one. Assumes nothing.
 use Prim.Native.Nat.{_+_, _*_, _-_}
 use mathlib.Core.Path.{_≡_, refl, sym, _∙_}
 use native.Mathlib.Omega.{arith}
@@ -6,11 +7,6 @@ use Rattle.message_5.proofs.Laws.{fed-opened, fed-kept}
 use borrow.Author.Needs.{needs}
 use Rattle.message_5.proofs.feed_kept.Statement.{statement}
 use Rattle.message_5.proofs.feed_kept.Tie as tie
-use Rattle.message_5.proofs.feed_kept.Reads as reads
-use Rattle.message_5.proofs.feed_kept.Lts as lts
-use Rattle.forms.proofs.is_opened.Reads as is-opened-reads
-use Rattle.message_5.proofs.psi.Reads as psi-reads
-use Rattle.sha.proofs.update.Reads as update-reads
 
 is-opened-requires : tie.Need-is-opened-requires
 is-opened-requires c κs = search needs

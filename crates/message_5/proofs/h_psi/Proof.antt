@@ -1,3 +1,4 @@
+-- `h_psi` feeds Ψ of each kept execution. Invariant: the hash has those of the executions before x. Assumes nothing.
 use Prim.Native.Nat.{_-_, _≤_}
 use mathlib.Core.Path.{_≡_, refl, _∙_}
 use native.Mathlib.Omega.{arith}
@@ -7,11 +8,6 @@ use Rattle.message_5.proofs.Laws.{all-none, all-more, all-fed}
 use borrow.Author.Needs.{needs}
 use Rattle.message_5.proofs.h_psi.Statement.{statement}
 use Rattle.message_5.proofs.h_psi.Tie as tie
-use Rattle.message_5.proofs.h_psi.Reads as reads
-use Rattle.message_5.proofs.h_psi.Lts as lts
-use Rattle.execution.proofs.commit.begin.Reads as begin-reads
-use Rattle.message_5.proofs.feed_kept.Reads as feed-kept-reads
-use Rattle.sha.proofs.finish.Reads as finish-reads
 
 abbrev Inv-loop : tie.InvT-loop
 Inv-loop q n m parties depth executions seeds secret e kappa seed entries leaves₀ work₀ outs₀ s₀ x₀ leaves work outs s x = (x ≤ executions) × (length leaves ≡ length leaves₀) × (length work ≡ length work₀) × (length outs ≡ length outs₀) × AllFed q n m parties depth x e seeds secret kappa seed entries s₀ s

@@ -1,14 +1,10 @@
+-- `message_5` refuses in order, or writes the digest from the place on. Assumes nothing.
 use mathlib.Core.Path.{_∙_}
 use native.Mathlib.Omega.{arith}
 use Rattle.prover.proofs.Laws.{refuses, writes, ready5}
 use borrow.Author.Needs.{needs}
 use Rattle.message_5.proofs.message_5.Statement.{statement}
 use Rattle.message_5.proofs.message_5.Tie as tie
-use Rattle.message_5.proofs.message_5.Reads as reads
-use Rattle.message_5.proofs.message_5.Lts as lts
-use Rattle.message_5.proofs.digest.Reads as digest-reads
-use Rattle.prover.proofs.checks.refusal_5.Reads as refusal-5-reads
-use Rattle.streams.proofs.copy.Reads as copy-reads
 
 refusal-5-requires : tie.Need-refusal-5-requires
 refusal-5-requires c κs = search needs

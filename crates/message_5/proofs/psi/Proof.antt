@@ -1,13 +1,9 @@
+-- `psi` deals the execution and hashes its outputs. Assumes nothing.
 use native.Mathlib.Omega.{arith}
 use Rattle.message_5.proofs.Laws.{psi-of}
 use borrow.Author.Needs.{needs}
 use Rattle.message_5.proofs.psi.Statement.{statement}
 use Rattle.message_5.proofs.psi.Tie as tie
-use Rattle.message_5.proofs.psi.Reads as reads
-use Rattle.message_5.proofs.psi.Lts as lts
-use Rattle.execution.proofs.prepare.deal.Reads as deal-reads
-use Rattle.response.proofs.dealt.dealt_outputs.Reads as dealt-outputs-reads
-use Rattle.views.proofs.outputs.psi_of.Reads as psi-of-reads
 
 deal-requires : tie.Need-deal-requires
 deal-requires c κs =

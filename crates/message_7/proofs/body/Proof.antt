@@ -1,16 +1,12 @@
 -- `body` meets its contract. Assumes nothing.
-use mathlib.Core.Path.{_≡_, sym, _∙_}
+use mathlib.Core.Path.{sym, _∙_}
 use native.Mathlib.Omega.{arith}
 use lib.Seq.{length-take-le}
-use Rattle.prover.proofs.Laws.{both-parts, later-part}
+use Rattle.lists.specs.Written.{both-parts, later-part}
 use Rattle.message_7.proofs.Laws.{message-is, front-fits}
 use borrow.Author.Needs.{needs}
 use Rattle.message_7.proofs.body.Statement.{statement}
 use Rattle.message_7.proofs.body.Tie as tie
-use Rattle.message_7.proofs.body.Reads as reads
-use Rattle.message_7.proofs.body.Lts as lts
-use Rattle.message_7.proofs.replies.Reads as replies-reads
-use Rattle.streams.proofs.copy.Reads as copy-reads
 
 mul-size : tie.Need-mul-size
 mul-size c = search needs

@@ -8,12 +8,6 @@ use Rattle.prover.proofs.Laws.{refuses, writes, accepted7, passed7, Ready7, rea
 use borrow.Author.Needs.{needs}
 use Rattle.message_7.proofs.message_7.Statement.{statement}
 use Rattle.message_7.proofs.message_7.Tie as tie
-use Rattle.message_7.proofs.message_7.Reads as reads
-use Rattle.message_7.proofs.message_7.Lts as lts
-use Rattle.key.proofs.numbers_of.Reads as numbers-of-reads
-use Rattle.message_7.proofs.write.Reads as write-reads
-use Rattle.prover.proofs.checks.refusal_7.Reads as refusal-7-reads
-use Rattle.transcript.proofs.replies_length.Reads as replies-length-reads
 
 -- what is known once no number applies
 ready : (c : tie.After-replies-length)

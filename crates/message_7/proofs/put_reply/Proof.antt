@@ -2,7 +2,7 @@
 use mathlib.Core.Path.{_≡_, _∙_, ap}
 use Prim.Native.Nat.{_+_, _*_, _-_}
 use native.Mathlib.Omega.{arith}
-use lib.ListN.{length, getD}
+use lib.ListN.{getD}
 use Rattle.lists.specs.CatLaws.{part-length}
 use Rattle.prover.proofs.Laws.{limits-of}
 use Rattle.message_7.specs.Parts.{replyLength}
@@ -10,11 +10,6 @@ use Rattle.message_7.proofs.Laws.{size-is, reply-puts}
 use borrow.Author.Needs.{needs}
 use Rattle.message_7.proofs.put_reply.Statement.{statement}
 use Rattle.message_7.proofs.put_reply.Tie as tie
-use Rattle.message_7.proofs.put_reply.Reads as reads
-use Rattle.message_7.proofs.put_reply.Lts as lts
-use Rattle.response.proofs.reply.dealt_reply.Reads as dealt-reply-reads
-use Rattle.transcript.proofs.hidden_at.Reads as hidden-at-reads
-use Rattle.transcript.proofs.reply_size.Reads as reply-size-reads
 
 -- the reply's length
 size : (c : tie.After-reply-size)

@@ -1,7 +1,7 @@
 -- `replies` meets its contract: the replies of the kept executions below x are written. Assumes nothing.
 use mathlib.Core.Path.{_≡_, refl, sym, _∙_, ap}
 use mathlib.Core.Bool.{false}
-use Prim.Native.Nat.{_+_, _*_, _-_, _≤_}
+use Prim.Native.Nat.{_+_, _-_, _≤_}
 use native.Mathlib.Omega.{arith}
 use lib.ListN.{length}
 use borrow.Author.Tests.{not-true, not-false}
@@ -12,10 +12,6 @@ use Rattle.message_7.proofs.Laws.{replies-none, replies-opened, replies
 use borrow.Author.Needs.{needs}
 use Rattle.message_7.proofs.replies.Statement.{statement}
 use Rattle.message_7.proofs.replies.Tie as tie
-use Rattle.message_7.proofs.replies.Reads as reads
-use Rattle.message_7.proofs.replies.Lts as lts
-use Rattle.forms.proofs.is_opened.Reads as is-opened-reads
-use Rattle.message_7.proofs.put_reply.Reads as put-reply-reads
 
 abbrev Inv-loop : tie.InvT-loop
 Inv-loop k depth seeds secret e seed hidden entries leaves₀ work₀ out₀ executions at₀ kept₀ x₀ leaves work out at kept x =

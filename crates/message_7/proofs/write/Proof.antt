@@ -1,19 +1,12 @@
 -- `write` meets its contract. Assumes nothing.
-use mathlib.Core.Path.{_≡_, refl, sym, _∙_, ap}
+use mathlib.Core.Path.{refl, sym, _∙_, ap}
 use Prim.Native.Nat.{_*_}
-use native.Mathlib.Omega.{arith}
 use Rattle.protocol.specs.Key.{keyOf}
 use Rattle.prover.proofs.Laws.{three-of-four}
 use Rattle.message_7.proofs.Laws.{hides-of, long-7, rows-fit, key-in, message7-of}
 use borrow.Author.Needs.{needs}
 use Rattle.message_7.proofs.write.Statement.{statement}
 use Rattle.message_7.proofs.write.Tie as tie
-use Rattle.message_7.proofs.write.Reads as reads
-use Rattle.message_7.proofs.write.Lts as lts
-use Rattle.key.proofs.depth.Reads as depth-reads
-use Rattle.key.proofs.entries.Reads as entries-reads
-use Rattle.key.proofs.numbers_of.Reads as numbers-of-reads
-use Rattle.message_7.proofs.body.Reads as body-reads
 
 numbers-of-requires : tie.Need-numbers-of-requires
 numbers-of-requires c κs = search needs

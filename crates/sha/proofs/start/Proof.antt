@@ -1,7 +1,6 @@
 -- `sha::start` stands for the empty message. Assumes nothing.
 use mathlib.Core.Path.{refl}
 use Rattle.sha_core.specs.Fips180.{H0, absorb}
-use borrow.Author.Needs.{needs}
 use Rattle.sha.proofs.start.Statement.{statement}
 use Rattle.sha.proofs.start.Tie as tie
 

@@ -1,8 +1,8 @@
 -- `sha_core::load_eight` meets its contract. The loop's invariant: the array starts with W_0 .. W_(j - 1). Assumes nothing.
 use mathlib.Core.Path.{_≡_, _∙_, sym}
-use Prim.Native.Nat.{ℕ, _-_, _+_, _≤_}
+use Prim.Native.Nat.{_-_, _+_, _≤_}
 use native.Mathlib.Omega.{arith}
-use lib.ListN.{length, take, length-set}
+use lib.ListN.{length, take}
 use Rattle.sha_core.specs.Fips180.{schedule, M}
 use Rattle.sha_core.proofs.Laws.{more, loaded}
 use borrow.Author.Needs.{needs}

@@ -17,32 +17,32 @@ part-start-requires-3 c κs = search needs
 part-start-requires-4 : tie.Need-part-start-requires-4
 part-start-requires-4 c κs = search needs
 
-sub-reply-from : tie.Need-sub-reply-from
-sub-reply-from c = omega (arith, second-in _ _ (c .before .before .before .before .before .pre .1 .0) (c .before .before .before .part-start .ensures .1) (c .before .before .part-start2 .ensures .1) (c .before .part-start3 .ensures .1) (c .part-start4 .ensures .1) .0, second-in _ _ (c .before .before .before .before .before .pre .1 .0) (c .before .before .before .part-start .ensures .1) (c .before .before .part-start2 .ensures .1) (c .before .part-start3 .ensures .1) (c .part-start4 .ensures .1) .1)
+sub-reply-start : tie.Need-sub-reply-start
+sub-reply-start c = omega (arith, second-in _ _ (c .before .before .before .before .before .pre .1 .0) (c .before .before .before .part-start .ensures .1) (c .before .before .part-start2 .ensures .1) (c .before .part-start3 .ensures .1) (c .part-start4 .ensures .1) .0, second-in _ _ (c .before .before .before .before .before .pre .1 .0) (c .before .before .before .part-start .ensures .1) (c .before .before .part-start2 .ensures .1) (c .before .part-start3 .ensures .1) (c .part-start4 .ensures .1) .1)
 
-part-reply-from-start : tie.Need-part-reply-from-start
-part-reply-from-start c = omega (arith, second-in _ _ (c .before .before .before .before .before .pre .1 .0) (c .before .before .before .part-start .ensures .1) (c .before .before .part-start2 .ensures .1) (c .before .part-start3 .ensures .1) (c .part-start4 .ensures .1) .0, second-in _ _ (c .before .before .before .before .before .pre .1 .0) (c .before .before .before .part-start .ensures .1) (c .before .before .part-start2 .ensures .1) (c .before .part-start3 .ensures .1) (c .part-start4 .ensures .1) .1)
+part-reply-start-start : tie.Need-part-reply-start-start
+part-reply-start-start c = omega (arith, second-in _ _ (c .before .before .before .before .before .pre .1 .0) (c .before .before .before .part-start .ensures .1) (c .before .before .part-start2 .ensures .1) (c .before .part-start3 .ensures .1) (c .part-start4 .ensures .1) .0, second-in _ _ (c .before .before .before .before .before .pre .1 .0) (c .before .before .before .part-start .ensures .1) (c .before .before .part-start2 .ensures .1) (c .before .part-start3 .ensures .1) (c .part-start4 .ensures .1) .1)
 
-part-reply-from-end : tie.Need-part-reply-from-end
-part-reply-from-end c = omega (arith, second-in _ _ (c .before .before .before .before .before .pre .1 .0) (c .before .before .before .part-start .ensures .1) (c .before .before .part-start2 .ensures .1) (c .before .part-start3 .ensures .1) (c .part-start4 .ensures .1) .0, second-in _ _ (c .before .before .before .before .before .pre .1 .0) (c .before .before .before .part-start .ensures .1) (c .before .before .part-start2 .ensures .1) (c .before .part-start3 .ensures .1) (c .part-start4 .ensures .1) .1)
+part-reply-start-end : tie.Need-part-reply-start-end
+part-reply-start-end c = omega (arith, second-in _ _ (c .before .before .before .before .before .pre .1 .0) (c .before .before .before .part-start .ensures .1) (c .before .before .part-start2 .ensures .1) (c .before .part-start3 .ensures .1) (c .part-start4 .ensures .1) .0, second-in _ _ (c .before .before .before .before .before .pre .1 .0) (c .before .before .before .part-start .ensures .1) (c .before .before .part-start2 .ensures .1) (c .before .part-start3 .ensures .1) (c .part-start4 .ensures .1) .1)
 
-sub-reply-from-2 : tie.Need-sub-reply-from-2
-sub-reply-from-2 c = omega (arith, sixth-in _ _ (c .before .before .before .before .before .before .pre .1 .0) (c .before .before .before .before .part-start .ensures .1) (c .before .before .before .part-start2 .ensures .1) (c .before .before .part-start3 .ensures .1) (c .before .part-start4 .ensures .1) .0, sixth-in _ _ (c .before .before .before .before .before .before .pre .1 .0) (c .before .before .before .before .part-start .ensures .1) (c .before .before .before .part-start2 .ensures .1) (c .before .before .part-start3 .ensures .1) (c .before .part-start4 .ensures .1) .1)
+sub-reply-start-2 : tie.Need-sub-reply-start-2
+sub-reply-start-2 c = omega (arith, sixth-in _ _ (c .before .before .before .before .before .before .pre .1 .0) (c .before .before .before .before .part-start .ensures .1) (c .before .before .before .part-start2 .ensures .1) (c .before .before .part-start3 .ensures .1) (c .before .part-start4 .ensures .1) .0, sixth-in _ _ (c .before .before .before .before .before .before .pre .1 .0) (c .before .before .before .before .part-start .ensures .1) (c .before .before .before .part-start2 .ensures .1) (c .before .before .part-start3 .ensures .1) (c .before .part-start4 .ensures .1) .1)
 
-part-reply-from-start-2 : tie.Need-part-reply-from-start-2
-part-reply-from-start-2 c = omega (arith, sixth-in _ _ (c .before .before .before .before .before .before .pre .1 .0) (c .before .before .before .before .part-start .ensures .1) (c .before .before .before .part-start2 .ensures .1) (c .before .before .part-start3 .ensures .1) (c .before .part-start4 .ensures .1) .0, sixth-in _ _ (c .before .before .before .before .before .before .pre .1 .0) (c .before .before .before .before .part-start .ensures .1) (c .before .before .before .part-start2 .ensures .1) (c .before .before .part-start3 .ensures .1) (c .before .part-start4 .ensures .1) .1)
+part-reply-start-start-2 : tie.Need-part-reply-start-start-2
+part-reply-start-start-2 c = omega (arith, sixth-in _ _ (c .before .before .before .before .before .before .pre .1 .0) (c .before .before .before .before .part-start .ensures .1) (c .before .before .before .part-start2 .ensures .1) (c .before .before .part-start3 .ensures .1) (c .before .part-start4 .ensures .1) .0, sixth-in _ _ (c .before .before .before .before .before .before .pre .1 .0) (c .before .before .before .before .part-start .ensures .1) (c .before .before .before .part-start2 .ensures .1) (c .before .before .part-start3 .ensures .1) (c .before .part-start4 .ensures .1) .1)
 
-part-reply-from-end-2 : tie.Need-part-reply-from-end-2
-part-reply-from-end-2 c = omega (arith, sixth-in _ _ (c .before .before .before .before .before .before .pre .1 .0) (c .before .before .before .before .part-start .ensures .1) (c .before .before .before .part-start2 .ensures .1) (c .before .before .part-start3 .ensures .1) (c .before .part-start4 .ensures .1) .0, sixth-in _ _ (c .before .before .before .before .before .before .pre .1 .0) (c .before .before .before .before .part-start .ensures .1) (c .before .before .before .part-start2 .ensures .1) (c .before .before .part-start3 .ensures .1) (c .before .part-start4 .ensures .1) .1)
+part-reply-start-end-2 : tie.Need-part-reply-start-end-2
+part-reply-start-end-2 c = omega (arith, sixth-in _ _ (c .before .before .before .before .before .before .pre .1 .0) (c .before .before .before .before .part-start .ensures .1) (c .before .before .before .part-start2 .ensures .1) (c .before .before .part-start3 .ensures .1) (c .before .part-start4 .ensures .1) .0, sixth-in _ _ (c .before .before .before .before .before .before .pre .1 .0) (c .before .before .before .before .part-start .ensures .1) (c .before .before .before .part-start2 .ensures .1) (c .before .before .part-start3 .ensures .1) (c .before .part-start4 .ensures .1) .1)
 
-reply-from-requires : tie.Need-reply-from-requires
-reply-from-requires c κs = search needs
+reply-start-requires : tie.Need-reply-start-requires
+reply-start-requires c κs = search needs
 
 add-result : tie.Need-add-result
 add-result c = search needs
 
 returns : tie.Need-returns
-returns c = (place-of _ _ (c .before .before .before .before .before .before .before .before .pre .1 .0) (c .before .before .before .before .before .before .part-start .ensures .1) (c .before .before .before .before .before .part-start2 .ensures .1) (c .before .before .before .before .part-start3 .ensures .1) (c .before .before .before .part-start4 .ensures .1) _ (c .reply-from .ensures .0), (omega (arith, c .before .before .before .part-start4 .ensures .0, c .reply-from .ensures .1, c .before .before .before .before .before .before .before .before .pre .0 .M-most, c .before .before .before .before .before .before .before .before .pre .1 .1)))
+returns c = (place-of _ _ (c .before .before .before .before .before .before .before .before .pre .1 .0) (c .before .before .before .before .before .before .part-start .ensures .1) (c .before .before .before .before .before .part-start2 .ensures .1) (c .before .before .before .before .part-start3 .ensures .1) (c .before .before .before .part-start4 .ensures .1) _ (c .reply-start .ensures .0), (omega (arith, c .before .before .before .part-start4 .ensures .0, c .reply-start .ensures .1, c .before .before .before .before .before .before .before .before .pre .0 .M-most, c .before .before .before .before .before .before .before .before .pre .1 .1)))
 
 pub reply-place-spec : {M : Type 1} → statement M
 reply-place-spec =
@@ -52,12 +52,12 @@ reply-place-spec =
     part-start-requires-2
     part-start-requires-3
     part-start-requires-4
-    sub-reply-from
-    part-reply-from-start
-    part-reply-from-end
-    sub-reply-from-2
-    part-reply-from-start-2
-    part-reply-from-end-2
-    reply-from-requires
+    sub-reply-start
+    part-reply-start-start
+    part-reply-start-end
+    sub-reply-start-2
+    part-reply-start-start-2
+    part-reply-start-end-2
+    reply-start-requires
     add-result
     returns)

@@ -1,7 +1,7 @@
 -- `streams::word_at` meets its contract: the eight bytes of a half stand one after the other. Assumes nothing.
 use borrow.Author.Needs.{needs}
 use Prim.Native.Nat.{_+_, _*_, _/_, _%_}
-use mathlib.Core.Path.{refl, _∙_}
+use mathlib.Core.Path.{_∙_}
 use native.Mathlib.Omega.{arith}
 use Rattle.streams.proofs.Laws.{half-word}
 use Rattle.streams.proofs.word_at.Statement.{statement}

@@ -1,11 +1,9 @@
-use Rattle.badge.proofs.Codes.{code-is, small-1}
+-- `badge_message_1_lent` turns the answer into a number; no message is longer than 100000 bytes. Assumes nothing.
+use Rattle.answer.proofs.Codes.{code-is}
+use Rattle.badge.proofs.Codes.{small-1}
 use borrow.Author.Needs.{needs}
 use Rattle.badge.proofs.lent.badge_message_1_lent.Statement.{statement}
 use Rattle.badge.proofs.lent.badge_message_1_lent.Tie as tie
-use Rattle.badge.proofs.lent.badge_message_1_lent.Reads as reads
-use Rattle.badge.proofs.lent.badge_message_1_lent.Lts as lts
-use Rattle.badge.proofs.code.code.Reads as code-reads
-use Rattle.message_1.proofs.message_1.Reads as message-1-reads
 
 message-1-requires : tie.Need-message-1-requires
 message-1-requires c κs = search needs

@@ -1,11 +1,9 @@
-use Rattle.badge.proofs.Codes.{code-is, small-3}
+-- `badge_message_3_lent` turns the answer into a number; no message is longer than 100000 bytes. Assumes nothing.
+use Rattle.answer.proofs.Codes.{code-is}
+use Rattle.badge.proofs.Codes.{small-3}
 use borrow.Author.Needs.{needs}
 use Rattle.badge.proofs.lent.badge_message_3_lent.Statement.{statement}
 use Rattle.badge.proofs.lent.badge_message_3_lent.Tie as tie
-use Rattle.badge.proofs.lent.badge_message_3_lent.Reads as reads
-use Rattle.badge.proofs.lent.badge_message_3_lent.Lts as lts
-use Rattle.badge.proofs.code.code.Reads as code-reads
-use Rattle.message_3.proofs.message_3.Reads as message-3-reads
 
 message-3-requires : tie.Need-message-3-requires
 message-3-requires c κs = search needs

@@ -1,11 +1,9 @@
-use Rattle.badge.proofs.Codes.{code-is, small-5}
+-- `badge_message_5_lent` turns the answer into a number; no message is longer than 100000 bytes. Assumes nothing.
+use Rattle.answer.proofs.Codes.{code-is}
+use Rattle.badge.proofs.Codes.{small-5}
 use borrow.Author.Needs.{needs}
 use Rattle.badge.proofs.lent.badge_message_5_lent.Statement.{statement}
 use Rattle.badge.proofs.lent.badge_message_5_lent.Tie as tie
-use Rattle.badge.proofs.lent.badge_message_5_lent.Reads as reads
-use Rattle.badge.proofs.lent.badge_message_5_lent.Lts as lts
-use Rattle.badge.proofs.code.code.Reads as code-reads
-use Rattle.message_5.proofs.message_5.Reads as message-5-reads
 
 message-5-requires : tie.Need-message-5-requires
 message-5-requires c κs = search needs

@@ -1,11 +1,9 @@
-use Rattle.badge.proofs.Codes.{code-is, small-7}
+-- `badge_message_7_lent` turns the answer into a number; no message is longer than 100000 bytes. Assumes nothing.
+use Rattle.answer.proofs.Codes.{code-is}
+use Rattle.badge.proofs.Codes.{small-7}
 use borrow.Author.Needs.{needs}
 use Rattle.badge.proofs.lent.badge_message_7_lent.Statement.{statement}
 use Rattle.badge.proofs.lent.badge_message_7_lent.Tie as tie
-use Rattle.badge.proofs.lent.badge_message_7_lent.Reads as reads
-use Rattle.badge.proofs.lent.badge_message_7_lent.Lts as lts
-use Rattle.badge.proofs.code.code.Reads as code-reads
-use Rattle.message_7.proofs.message_7.Reads as message-7-reads
 
 message-7-requires : tie.Need-message-7-requires
 message-7-requires c κs = search needs

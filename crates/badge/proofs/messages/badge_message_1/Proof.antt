@@ -1,11 +1,9 @@
-use Rattle.badge.proofs.Codes.{code-is, small-1}
+-- `badge_message_1` lends its own lists and turns the answer into a number. Assumes nothing.
+use Rattle.answer.proofs.Codes.{code-is}
+use Rattle.badge.proofs.Codes.{small-1}
 use borrow.Author.Needs.{needs}
 use Rattle.badge.proofs.messages.badge_message_1.Statement.{statement}
 use Rattle.badge.proofs.messages.badge_message_1.Tie as tie
-use Rattle.badge.proofs.messages.badge_message_1.Reads as reads
-use Rattle.badge.proofs.messages.badge_message_1.Lts as lts
-use Rattle.badge.proofs.code.code.Reads as code-reads
-use Rattle.message_1.proofs.message_1.Reads as message-1-reads
 
 slice-aggregate-message-1 : tie.Need-slice-aggregate-message-1
 slice-aggregate-message-1 c = search needs

@@ -1,11 +1,9 @@
-use Rattle.badge.proofs.Codes.{code-is, small-3}
+-- `badge_message_3` lends its own lists and turns the answer into a number. Assumes nothing.
+use Rattle.answer.proofs.Codes.{code-is}
+use Rattle.badge.proofs.Codes.{small-3}
 use borrow.Author.Needs.{needs}
 use Rattle.badge.proofs.messages.badge_message_3.Statement.{statement}
 use Rattle.badge.proofs.messages.badge_message_3.Tie as tie
-use Rattle.badge.proofs.messages.badge_message_3.Reads as reads
-use Rattle.badge.proofs.messages.badge_message_3.Lts as lts
-use Rattle.badge.proofs.code.code.Reads as code-reads
-use Rattle.message_3.proofs.message_3.Reads as message-3-reads
 
 slice-aggregate-message-3 : tie.Need-slice-aggregate-message-3
 slice-aggregate-message-3 c = search needs

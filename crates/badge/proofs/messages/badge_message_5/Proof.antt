@@ -1,11 +1,9 @@
-use Rattle.badge.proofs.Codes.{code-is, small-5}
+-- `badge_message_5` lends its own lists and turns the answer into a number. Assumes nothing.
+use Rattle.answer.proofs.Codes.{code-is}
+use Rattle.badge.proofs.Codes.{small-5}
 use borrow.Author.Needs.{needs}
 use Rattle.badge.proofs.messages.badge_message_5.Statement.{statement}
 use Rattle.badge.proofs.messages.badge_message_5.Tie as tie
-use Rattle.badge.proofs.messages.badge_message_5.Reads as reads
-use Rattle.badge.proofs.messages.badge_message_5.Lts as lts
-use Rattle.badge.proofs.code.code.Reads as code-reads
-use Rattle.message_5.proofs.message_5.Reads as message-5-reads
 
 slice-aggregate-message-5 : tie.Need-slice-aggregate-message-5
 slice-aggregate-message-5 c = search needs

@@ -1,11 +1,9 @@
-use Rattle.badge.proofs.Codes.{code-is, small-7}
+-- `badge_message_7` lends its own lists and turns the answer into a number. Assumes nothing.
+use Rattle.answer.proofs.Codes.{code-is}
+use Rattle.badge.proofs.Codes.{small-7}
 use borrow.Author.Needs.{needs}
 use Rattle.badge.proofs.messages.badge_message_7.Statement.{statement}
 use Rattle.badge.proofs.messages.badge_message_7.Tie as tie
-use Rattle.badge.proofs.messages.badge_message_7.Reads as reads
-use Rattle.badge.proofs.messages.badge_message_7.Lts as lts
-use Rattle.badge.proofs.code.code.Reads as code-reads
-use Rattle.message_7.proofs.message_7.Reads as message-7-reads
 
 slice-aggregate-message-7 : tie.Need-slice-aggregate-message-7
 slice-aggregate-message-7 c = search needs

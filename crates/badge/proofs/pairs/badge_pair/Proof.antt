@@ -5,43 +5,31 @@ use mir.ValLaws.{toZ-ofZ}
 use borrow.Author.Needs.{needs}
 use Rattle.badge.proofs.pairs.badge_pair.Statement.{statement}
 use Rattle.badge.proofs.pairs.badge_pair.Tie as tie
-use Rattle.badge.proofs.pairs.badge_pair.Reads as reads
-use Rattle.badge.proofs.pairs.badge_pair.Lts as lts
-use Rattle.badge.proofs.pairs.read.Reads as read-reads
 
--- src/pairs.rt:125:9
 slice-aggregate-read : tie.Need-slice-aggregate-read
 slice-aggregate-read c = search needs
 
--- src/pairs.rt:126:9
 slice-aggregate-read-2 : tie.Need-slice-aggregate-read-2
 slice-aggregate-read-2 c = search needs
 
--- src/pairs.rt:116:5
 read-requires : tie.Need-read-requires
 read-requires c κs = search needs
 
--- src/pairs.rt:96:1
 same-length : tie.Need-same-length
 same-length c = search needs
 
--- src/pairs.rt:96:1
 same-length-2 : tie.Need-same-length-2
 same-length-2 c = search needs
 
--- src/pairs.rt:96:1
 same-length-3 : tie.Need-same-length-3
 same-length-3 c = search needs
 
--- src/pairs.rt:96:1
 same-length-4 : tie.Need-same-length-4
 same-length-4 c = search needs
 
--- src/pairs.rt:96:1
 same-length-5 : tie.Need-same-length-5
 same-length-5 c = search needs
 
--- src/pairs.rt:96:1
 returns : tie.Need-returns
 returns c =
     let r = c .before .before .before .before .before .before .before .before .before .before .before .before .read .ensures in

@@ -5,43 +5,31 @@ use mir.ValLaws.{toZ-ofZ}
 use borrow.Author.Needs.{needs}
 use Rattle.badge.proofs.pairs.badge_pair_lent.Statement.{statement}
 use Rattle.badge.proofs.pairs.badge_pair_lent.Tie as tie
-use Rattle.badge.proofs.pairs.badge_pair_lent.Reads as reads
-use Rattle.badge.proofs.pairs.badge_pair_lent.Lts as lts
-use Rattle.badge.proofs.pairs.read.Reads as read-reads
 
--- src/pairs.rt:81:5
 read-requires : tie.Need-read-requires
 read-requires c κs = search needs
 
--- src/pairs.rt:61:1
 same-length : tie.Need-same-length
 same-length c = search needs
 
--- src/pairs.rt:61:1
 same-length-2 : tie.Need-same-length-2
 same-length-2 c = search needs
 
--- src/pairs.rt:61:1
 same-length-3 : tie.Need-same-length-3
 same-length-3 c = search needs
 
--- src/pairs.rt:61:1
 same-length-4 : tie.Need-same-length-4
 same-length-4 c = search needs
 
--- src/pairs.rt:61:1
 same-length-5 : tie.Need-same-length-5
 same-length-5 c = search needs
 
--- src/pairs.rt:61:1
 same-length-6 : tie.Need-same-length-6
 same-length-6 c = search needs
 
--- src/pairs.rt:61:1
 same-length-7 : tie.Need-same-length-7
 same-length-7 c = search needs
 
--- src/pairs.rt:61:1
 returns : tie.Need-returns
 returns c =
     let r = c .before .before .before .before .before .before .before .before .before .before .before .before .before .before .read .ensures in

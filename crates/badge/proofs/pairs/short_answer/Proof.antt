@@ -7,19 +7,13 @@ use Rattle.badge.proofs.Readings.{eleven}
 use borrow.Author.Needs.{needs}
 use Rattle.badge.proofs.pairs.short_answer.Statement.{statement}
 use Rattle.badge.proofs.pairs.short_answer.Tie as tie
-use Rattle.badge.proofs.pairs.short_answer.Reads as reads
-use Rattle.badge.proofs.pairs.short_answer.Lts as lts
-use Rattle.key.proofs.check.Reads as check-reads
 
--- src/pairs.rt:23:9
 check-requires : tie.Need-check-requires
 check-requires c κs = search needs
 
--- src/pairs.rt:25:9
 returns : tie.Need-returns
 returns c = of-left _ _ (c .before .check .ensures) (c .if1 .taken)
 
--- src/pairs.rt:20:1
 returns-2 : tie.Need-returns-2
 returns-2 c = of-right (keyChecks (keyOf (c .before .before .before .args .key .now)) (c .before .before .before .args .key .now)) _ (key-accepted (c .before .before .before .args .key .now) (sym (c .before .check .ensures) ∙ c .if1 .left)) eleven
 

@@ -9,12 +9,6 @@ use Rattle.execution.proofs.Dealt.{all-dealt, dealt-reduced}
 use borrow.Author.Needs.{needs}
 use Rattle.execution.proofs.prepare.deal.Statement.{statement}
 use Rattle.execution.proofs.prepare.deal.Tie as tie
-use Rattle.execution.proofs.prepare.deal.Reads as reads
-use Rattle.execution.proofs.prepare.deal.Lts as lts
-use Rattle.execution.proofs.shares.deal_d.Reads as deal-d-reads
-use Rattle.execution.proofs.shares.deal_s.Reads as deal-s-reads
-use Rattle.execution.proofs.shares.draw_shares.Reads as draw-shares-reads
-use Rattle.tree.proofs.leaves.Reads as leaves-reads
 
 leaves-requires : tie.Need-leaves-requires
 leaves-requires c κs = search needs

@@ -8,11 +8,6 @@ use Rattle.execution.proofs.Dealt.{opened-dealt}
 use borrow.Author.Needs.{needs}
 use Rattle.execution.proofs.prepare.deal_opened.Statement.{statement}
 use Rattle.execution.proofs.prepare.deal_opened.Tie as tie
-use Rattle.execution.proofs.prepare.deal_opened.Reads as reads
-use Rattle.execution.proofs.prepare.deal_opened.Lts as lts
-use Rattle.execution.proofs.shares.deal_d.Reads as deal-d-reads
-use Rattle.execution.proofs.shares.draw_shares.Reads as draw-shares-reads
-use Rattle.tree.proofs.leaves.Reads as leaves-reads
 
 leaves-requires : tie.Need-leaves-requires
 leaves-requires c κs = search needs

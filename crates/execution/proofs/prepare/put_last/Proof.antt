@@ -6,10 +6,6 @@ use Rattle.execution.proofs.Kept.{last-count-most}
 use borrow.Author.Needs.{needs}
 use Rattle.execution.proofs.prepare.put_last.Statement.{statement}
 use Rattle.execution.proofs.prepare.put_last.Tie as tie
-use Rattle.execution.proofs.prepare.put_last.Reads as reads
-use Rattle.execution.proofs.prepare.put_last.Lts as lts
-use Rattle.execution.proofs.prepare.last_count.Reads as last-count-reads
-use Rattle.execution.proofs.prepare.put_numbers.Reads as put-numbers-reads
 
 -- party N's numbers end within all parties' numbers, of which there are few
 room : (c : tie.After-last-count) → (3 * c .before .before .before .args .m * (c .before .before .before .args .parties - 1) + 3 * c .before .before .before .args .m ≤ 3 * c .before .before .before .args .m * c .before .before .before .args .parties)

@@ -8,9 +8,6 @@ use Rattle.execution.proofs.Laws.{put-none, put-next}
 use borrow.Author.Needs.{needs}
 use Rattle.execution.proofs.prepare.put_numbers.Statement.{statement}
 use Rattle.execution.proofs.prepare.put_numbers.Tie as tie
-use Rattle.execution.proofs.prepare.put_numbers.Reads as reads
-use Rattle.execution.proofs.prepare.put_numbers.Lts as lts
-use Rattle.bytes4.proofs.le32.Reads as le32-reads
 
 abbrev Inv-loop : tie.InvT-loop
 Inv-loop given first count from work₀ j₀ work j = (j ≤ count) × Put from j (λ x. num given (first + x)) work₀ work

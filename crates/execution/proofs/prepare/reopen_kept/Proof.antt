@@ -11,11 +11,6 @@ use Rattle.execution.proofs.Kept.{rest-is, rest-long, Reopened, all-kep
 use borrow.Author.Needs.{needs}
 use Rattle.execution.proofs.prepare.reopen_kept.Statement.{statement}
 use Rattle.execution.proofs.prepare.reopen_kept.Tie as tie
-use Rattle.execution.proofs.prepare.reopen_kept.Reads as reads
-use Rattle.execution.proofs.prepare.reopen_kept.Lts as lts
-use Rattle.execution.proofs.prepare.put_last.Reads as put-last-reads
-use Rattle.execution.proofs.shares.draw_shares.Reads as draw-shares-reads
-use Rattle.tree.proofs.reopen.Reads as reopen-reads
 
 mul-seeds : tie.Need-mul-seeds
 mul-seeds c = search needs

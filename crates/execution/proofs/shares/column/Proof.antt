@@ -9,9 +9,6 @@ use Rattle.execution.proofs.Laws.{sum-step}
 use borrow.Author.Needs.{needs}
 use Rattle.execution.proofs.shares.column.Statement.{statement}
 use Rattle.execution.proofs.shares.column.Tie as tie
-use Rattle.execution.proofs.shares.column.Reads as reads
-use Rattle.execution.proofs.shares.column.Lts as lts
-use Rattle.execution.proofs.shares.wide.Reads as wide-reads
 
 abbrev Inv-loop : tie.InvT-loop
 Inv-loop work start stride count total₀ at₀ counter₀ total at counter =

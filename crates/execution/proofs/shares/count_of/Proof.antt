@@ -5,8 +5,6 @@ use borrow.Author.Tests.{eq-eqb, ne-eqb}
 use borrow.Author.Needs.{needs}
 use Rattle.execution.proofs.shares.count_of.Statement.{statement}
 use Rattle.execution.proofs.shares.count_of.Tie as tie
-use Rattle.execution.proofs.shares.count_of.Reads as reads
-use Rattle.execution.proofs.shares.count_of.Lts as lts
 
 add-if1 : tie.Need-add-if1
 add-if1 c = search needs

@@ -7,9 +7,6 @@ use Rattle.execution.proofs.Laws.{inside, small, put-none, put-next, la
 use borrow.Author.Needs.{needs}
 use Rattle.execution.proofs.shares.deal_d.Statement.{statement}
 use Rattle.execution.proofs.shares.deal_d.Tie as tie
-use Rattle.execution.proofs.shares.deal_d.Reads as reads
-use Rattle.execution.proofs.shares.deal_d.Lts as lts
-use Rattle.execution.proofs.shares.last_d.Reads as last-d-reads
 
 abbrev Inv-loop : tie.InvT-loop
 Inv-loop q m parties work₀ from k₀ work k = (k ≤ m) × Put from k (lastD q m parties work₀) work₀ work

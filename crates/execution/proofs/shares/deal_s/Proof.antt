@@ -8,9 +8,6 @@ use Rattle.execution.proofs.Laws.{inside, small, put-none, put-next, la
 use borrow.Author.Needs.{needs}
 use Rattle.execution.proofs.shares.deal_s.Statement.{statement}
 use Rattle.execution.proofs.shares.deal_s.Tie as tie
-use Rattle.execution.proofs.shares.deal_s.Reads as reads
-use Rattle.execution.proofs.shares.deal_s.Lts as lts
-use Rattle.execution.proofs.shares.last_s.Reads as last-s-reads
 
 abbrev Inv-loop : tie.InvT-loop
 Inv-loop q m parties secret work₀ from k₀ work k = (k ≤ m) × Put from k (λ k. lastS q m parties work₀ (getD secret k 0) k) work₀ work

@@ -6,9 +6,6 @@ use Rattle.execution.proofs.Laws.{part-long, drawn-hidden, drawn-next}
 use borrow.Author.Needs.{needs}
 use Rattle.execution.proofs.shares.draw_open.Statement.{statement}
 use Rattle.execution.proofs.shares.draw_open.Tie as tie
-use Rattle.execution.proofs.shares.draw_open.Reads as reads
-use Rattle.execution.proofs.shares.draw_open.Lts as lts
-use Rattle.execution.proofs.shares.draw_party.Reads as draw-party-reads
 
 returns : tie.Need-returns
 returns c = (λ n e so. drawn-hidden (e ∙ c .if1 .taken) so, refl)

@@ -5,10 +5,6 @@ use Rattle.execution.proofs.Laws.{inside, small, count-le, part-long, p
 use borrow.Author.Needs.{needs}
 use Rattle.execution.proofs.shares.draw_party.Statement.{statement}
 use Rattle.execution.proofs.shares.draw_party.Tie as tie
-use Rattle.execution.proofs.shares.draw_party.Reads as reads
-use Rattle.execution.proofs.shares.draw_party.Lts as lts
-use Rattle.execution.proofs.shares.count_of.Reads as count-of-reads
-use Rattle.streams.proofs.fill.Reads as fill-reads
 
 -- the part that is lent ends within the parties' numbers, of which there are few
 room : (c : tie.After-count-of)

@@ -8,9 +8,6 @@ use Rattle.execution.proofs.Laws.{drawn-none}
 use borrow.Author.Needs.{needs}
 use Rattle.execution.proofs.shares.draw_shares.Statement.{statement}
 use Rattle.execution.proofs.shares.draw_shares.Tie as tie
-use Rattle.execution.proofs.shares.draw_shares.Reads as reads
-use Rattle.execution.proofs.shares.draw_shares.Lts as lts
-use Rattle.execution.proofs.shares.draw_open.Reads as draw-open-reads
 
 abbrev Inv-loop : tie.InvT-loop
 Inv-loop q m parties hidden per leaves work₀ i₀ work i = (i ≤ parties) × Drawn q m parties hidden per leaves work i × (length work ≡ length work₀)

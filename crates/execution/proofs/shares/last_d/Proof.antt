@@ -8,12 +8,6 @@ use Rattle.execution.proofs.Laws.{column-in, last-d-is}
 use borrow.Author.Needs.{needs}
 use Rattle.execution.proofs.shares.last_d.Statement.{statement}
 use Rattle.execution.proofs.shares.last_d.Tie as tie
-use Rattle.execution.proofs.shares.last_d.Reads as reads
-use Rattle.execution.proofs.shares.last_d.Lts as lts
-use Rattle.execution.proofs.shares.column.Reads as column-reads
-use Rattle.numbers.proofs.mul_mod.Reads as mul-mod-reads
-use Rattle.numbers.proofs.reduced.Reads as reduced-reads
-use Rattle.numbers.proofs.sub_mod.Reads as sub-mod-reads
 
 mul-column : tie.Need-mul-column
 mul-column c = search needs

@@ -8,11 +8,6 @@ use Rattle.execution.proofs.Laws.{column-in, last-s-is}
 use borrow.Author.Needs.{needs}
 use Rattle.execution.proofs.shares.last_s.Statement.{statement}
 use Rattle.execution.proofs.shares.last_s.Tie as tie
-use Rattle.execution.proofs.shares.last_s.Reads as reads
-use Rattle.execution.proofs.shares.last_s.Lts as lts
-use Rattle.execution.proofs.shares.column.Reads as column-reads
-use Rattle.numbers.proofs.reduced.Reads as reduced-reads
-use Rattle.numbers.proofs.sub_mod.Reads as sub-mod-reads
 
 mul-column : tie.Need-mul-column
 mul-column c = search needs

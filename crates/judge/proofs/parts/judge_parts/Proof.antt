@@ -13,12 +13,6 @@ use Rattle.judge.proofs.Laws.{form-clean, form-refused, walk-refused, h
 use borrow.Author.Needs.{needs}
 use Rattle.judge.proofs.parts.judge_parts.Statement.{statement}
 use Rattle.judge.proofs.parts.judge_parts.Tie as tie
-use Rattle.judge.proofs.parts.judge_parts.Reads as reads
-use Rattle.judge.proofs.parts.judge_parts.Lts as lts
-use Rattle.judge.proofs.parts.list_code.Reads as list-code-reads
-use Rattle.key.proofs.depth.Reads as depth-reads
-use Rattle.transcript.proofs.check_parts.Reads as check-parts-reads
-use Rattle.walk.proofs.hashes.walk.Reads as walk-reads
 
 -- the key and the parts that the call is about
 abbrev keyAt : tie.Start → Key
@@ -46,35 +40,28 @@ stands c =
 walked : (c : tie.After-walk) → Walked (keyAt (c .before .before .before .before .before .before .before .before .before .before .before .before .before .before .before .before)) (partsAt (c .before .before .before .before .before .before .before .before .before .before .before .before .before .before .before .before)) (c .walk .result) (c .walk .last .1 .1 .1 .1 .1 .1 .1 .1 .1 .1 .1 .1 .1 .0)
 walked c = let s = c .before .before .before .before .before .before .before .before .before .before .before .before .before .before .before .before in c .walk .ensures .0 (keyAt s) (partsAt s) (stands (c .before .before .before))
 
--- src/parts.rt:64:9
 check-parts-requires : tie.Need-check-parts-requires
 check-parts-requires c κs = search needs
 
--- src/parts.rt:66:9
 returns : tie.Need-returns
 returns c =
     let s = c .before .before .before .before .before .before .before .before .before .before .before .before in
     (form-refused (keyAt s) (partsAt s) (form (c .before)) (c .if1 .taken), ((λ z. absurd (c .if1 .taken z)), (refl, refl)))
 
--- src/parts.rt:71:9
 depth-requires : tie.Need-depth-requires
 depth-requires c κs = search needs
 
--- src/parts.rt:72:9
 walk-requires : tie.Need-walk-requires
 walk-requires c κs =
     let p = c .before .before .before .before .before .before .before .before .before .before .before .before .before .before .before .pre in
     (within-of (c .before .before .before .before .before .before .before .before .before .before .before .before .before .before .before .args .k) (c .before .before .depth .result) (p .0) (c .before .before .depth .ensures), (stood-of (stands (c .before .before)), (p .1 .0, (p .1 .1 .0, (p .1 .1 .1 .0, (p .1 .1 .1 .1 .0, p .1 .1 .1 .1 .1))))))
 
--- src/parts.rt:90:9
 same-length : tie.Need-same-length
 same-length c = search needs
 
--- src/parts.rt:90:9
 same-length-2 : tie.Need-same-length-2
 same-length-2 c = search needs
 
--- src/parts.rt:90:9
 returns-2 : tie.Need-returns-2
 returns-2 c =
     let s = c .before .before .before .before .before .before .before .before .before .before .before .before .before .before .before .before .before .before .before .before .before in (
@@ -82,53 +69,41 @@ returns-2 c =
       ((λ z. absurd (c .if2 .taken z)), (c .before .before .before .before .before .walk .ensures .1, search needs)),
     )
 
--- src/parts.rt:92:16
 sub-kept : tie.Need-sub-kept
 sub-kept c = omega (arith, c .before .before .before .before .before .before .before .before .before .before .before .before .before .before .before .before .before .before .before .before .before .pre .0 .τ-below-M, c .before .before .before .before .before .before .before .before .before .before .before .before .before .before .before .before .before .before .before .before .before .pre .0 .M-most)
 
--- src/parts.rt:93:16
 mul-from : tie.Need-mul-from
 mul-from c = omega (arith, c .before .before .before .before .before .before .before .before .before .before .before .before .before .before .before .before .before .before .before .before .before .pre .0 .τ-below-M, c .before .before .before .before .before .before .before .before .before .before .before .before .before .before .before .before .before .before .before .before .before .pre .0 .M-most)
 
--- src/parts.rt:93:32
 mul-from-2 : tie.Need-mul-from-2
 mul-from-2 c = omega (arith, c .before .before .before .before .before .before .before .before .before .before .before .before .before .before .before .before .before .before .before .before .before .pre .0 .τ-below-M, c .before .before .before .before .before .before .before .before .before .before .before .before .before .before .before .before .before .before .before .before .before .pre .0 .M-most)
 
--- src/parts.rt:93:16
 add-from : tie.Need-add-from
 add-from c = omega (arith, c .before .before .before .before .before .before .before .before .before .before .before .before .before .before .before .before .before .before .before .before .before .pre .0 .τ-below-M, c .before .before .before .before .before .before .before .before .before .before .before .before .before .before .before .before .before .before .before .before .before .pre .0 .M-most)
 
--- src/parts.rt:94:14
 add-to : tie.Need-add-to
 add-to c = omega (arith, c .before .before .before .before .before .before .before .before .before .before .before .before .before .before .before .before .before .before .before .before .before .pre .0 .τ-below-M, c .before .before .before .before .before .before .before .before .before .before .before .before .before .before .before .before .before .before .before .before .before .pre .0 .M-most)
 
--- src/parts.rt:95:37
 sub-list-code : tie.Need-sub-list-code
 sub-list-code c = search needs
 
--- src/parts.rt:95:37
 part-list-code-start : tie.Need-part-list-code-start
 part-list-code-start c = search needs
 
--- src/parts.rt:95:37
 part-list-code-end : tie.Need-part-list-code-end
 part-list-code-end c = omega (arith, c .before .before .before .before .before .before .before .before .before .before .before .before .before .before .before .before .before .before .before .before .before .pre .1 .0)
 
--- src/parts.rt:95:5
 list-code-requires : tie.Need-list-code-requires
 list-code-requires c κs =
     let p = c .before .before .before .before .before .before .before .before .before .before .before .before .before .before .before .before .before .before .before .before .before .before .before .pre in
     ((p .0 .M-most, omega (arith, p .0 .M-most)), c .before .before .before .before .before .before .before .walk .ensures .1 ∙ p .1 .1 .1 .1 .0)
 
--- src/parts.rt:40:1
 same-length-3 : tie.Need-same-length-3
 same-length-3 c = search needs
 
--- src/parts.rt:40:1
 same-length-4 : tie.Need-same-length-4
 same-length-4 c = search needs
 
--- src/parts.rt:40:1
 returns-3 : tie.Need-returns-3
 returns-3 c =
     let s = c .before .before .before .before .before .before .before .before .before .before .before .before .before .before .before .before .before .before .before .before .before .before .before .before in (

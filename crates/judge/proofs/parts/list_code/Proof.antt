@@ -7,80 +7,58 @@ use Rattle.judge.proofs.Laws.{list-tests}
 use borrow.Author.Needs.{needs}
 use Rattle.judge.proofs.parts.list_code.Statement.{statement}
 use Rattle.judge.proofs.parts.list_code.Tie as tie
-use Rattle.judge.proofs.parts.list_code.Reads as reads
-use Rattle.judge.proofs.parts.list_code.Lts as lts
-use Rattle.sha.proofs.hash.Reads as hash-reads
-use Rattle.walk.proofs.hashes.hash_code.Reads as hash-code-reads
 
--- src/parts.rt:31:13
 mul-a : tie.Need-mul-a
 mul-a c = search needs
 
--- src/parts.rt:32:17
 mul-b : tie.Need-mul-b
 mul-b c = search needs
 
--- src/parts.rt:32:13
 add-b : tie.Need-add-b
 add-b c = search needs
 
--- src/parts.rt:33:27
 slice-aggregate-hash : tie.Need-slice-aggregate-hash
 slice-aggregate-hash c = sym (length-take-le (32 * c .before .before .before .before .before .args .executions) (c .before .before .before .before .before .args .lists .now) (omega (arith, c .before .before .before .before .before .pre .1)))
 
--- src/parts.rt:33:17
 hash-requires : tie.Need-hash-requires
 hash-requires c κs = search needs
 
--- src/parts.rt:34:24
 sub-hash : tie.Need-sub-hash
 sub-hash c = search needs
 
--- src/parts.rt:34:24
 part-hash-start : tie.Need-part-hash-start
 part-hash-start c = search needs
 
--- src/parts.rt:34:24
 part-hash-end : tie.Need-part-hash-end
 part-hash-end c = search needs
 
--- src/parts.rt:34:14
 hash-requires-2 : tie.Need-hash-requires-2
 hash-requires-2 c κs = search needs
 
--- src/parts.rt:35:25
 sub-hash-2 : tie.Need-sub-hash-2
 sub-hash-2 c = search needs
 
--- src/parts.rt:35:25
 part-hash-start-2 : tie.Need-part-hash-start-2
 part-hash-start-2 c = search needs
 
--- src/parts.rt:35:25
 part-hash-end-2 : tie.Need-part-hash-end-2
 part-hash-end-2 c = search needs
 
--- src/parts.rt:35:15
 hash-requires-3 : tie.Need-hash-requires-3
 hash-requires-3 c κs = search needs
 
--- src/parts.rt:36:27
 slice-aggregate-hash-code : tie.Need-slice-aggregate-hash-code
 slice-aggregate-hash-code c = search needs
 
--- src/parts.rt:36:42
 slice-aggregate-hash-code-2 : tie.Need-slice-aggregate-hash-code-2
 slice-aggregate-hash-code-2 c = search needs
 
--- src/parts.rt:36:51
 slice-aggregate-hash-code-3 : tie.Need-slice-aggregate-hash-code-3
 slice-aggregate-hash-code-3 c = search needs
 
--- src/parts.rt:36:5
 hash-code-requires : tie.Need-hash-code-requires
 hash-code-requires c κs = search needs
 
--- src/parts.rt:19:1
 returns : tie.Need-returns
 returns c =
     let a = c .before .before .before .before .before .before .before .before .before .before .before .before .before .before .args in

@@ -11,86 +11,61 @@ use Rattle.judge.proofs.Runs.{key-refused, room-refused, run-verdict, w
 use borrow.Author.Needs.{needs}
 use Rattle.judge.proofs.run.judge.Statement.{statement}
 use Rattle.judge.proofs.run.judge.Tie as tie
-use Rattle.judge.proofs.run.judge.Reads as reads
-use Rattle.judge.proofs.run.judge.Lts as lts
-use Rattle.judge.proofs.run.judge_run.Reads as judge-run-reads
-use Rattle.key.proofs.check.Reads as check-reads
-use Rattle.key.proofs.entries.Reads as entries-reads
-use Rattle.key.proofs.entry_count.Reads as entry-count-reads
-use Rattle.key.proofs.numbers_of.Reads as numbers-of-reads
 
 fine : (c : tie.Else1) → first (keyChecks (keyOf (c .before .before .before .before .before .before .args .key .now)) (c .before .before .before .before .before .before .args .key .now)) ≡ accepted
 fine c = key-accepted (c .before .before .before .before .before .before .args .key .now) (sym (c .before .check .ensures) ∙ c .if1 .left)
 
--- src/run.rt:59:9
 check-requires : tie.Need-check-requires
 check-requires c κs = search needs
 
--- src/run.rt:61:9
 returns : tie.Need-returns
 returns c = key-refused (c .before .before .before .before .before .before .args .key .now) (c .before .before .before .before .before .before .args .run .now) (length (c .before .before .before .before .before .before .args .work .now)) (length (c .before .before .before .before .before .before .args .entries .now)) (c .before .check .ensures) (c .if1 .taken)
 
--- src/run.rt:63:9
 numbers-of-requires : tie.Need-numbers-of-requires
 numbers-of-requires c κs = fine c
 
--- src/run.rt:64:9
 entry-count-requires : tie.Need-entry-count-requires
 entry-count-requires c κs = search needs
 
--- src/run.rt:65:21
 mul-if2 : tie.Need-mul-if2
 mul-if2 c = search needs
 
--- src/run.rt:65:21
 mul-if2-2 : tie.Need-mul-if2-2
 mul-if2-2 c = omega (arith, work-most _ _ (c .before .before .before .numbers-of .ensures .within .m-most) (c .before .before .before .numbers-of .ensures .within .N-most))
 
--- src/run.rt:66:9
 returns-2 : tie.Need-returns-2
 returns-2 c = room-refused (c .before .before .before .before .before .before .before .before .before .before .before .args .key .now) (c .before .before .before .before .before .before .before .before .before .before .before .args .run .now) (length (c .before .before .before .before .before .before .before .before .before .before .before .args .work .now)) (length (c .before .before .before .before .before .before .before .before .before .before .before .args .entries .now)) (fine (c .before .before .before .before .before)) (work-short (c .before .before .before .before .before .before .before .before .before .before .before .args .key .now) (c .before .before .before .before .numbers-of .result) (c .before .before .before .before .numbers-of .ensures) (length (c .before .before .before .before .before .before .before .before .before .before .before .args .entries .now)) (c .if2 .taken))
 
--- src/run.rt:69:9
 returns-3 : tie.Need-returns-3
 returns-3 c = room-refused (c .before .before .before .before .before .before .before .before .before .before .before .before .args .key .now) (c .before .before .before .before .before .before .before .before .before .before .before .before .args .run .now) (length (c .before .before .before .before .before .before .before .before .before .before .before .before .args .work .now)) (length (c .before .before .before .before .before .before .before .before .before .before .before .before .args .entries .now)) (fine (c .before .before .before .before .before .before)) (entries-short (c .before .before .before .before .before .before .before .before .before .before .before .before .args .key .now) (c .before .before .before .before .before .numbers-of .result) (c .before .before .before .before .before .numbers-of .ensures) (length (c .before .before .before .before .before .before .before .before .before .before .before .before .args .work .now)) (omega (arith, c .if3 .taken, c .before .before .before .before .entry-count .ensures .0)))
 
--- src/run.rt:71:5
 entries-requires : tie.Need-entries-requires
 entries-requires c κs = (fine (c .before .before .before .before .before .before .before), entries-room (c .before .before .before .before .before .before .before .before .before .before .before .before .before .args .key .now) (c .before .before .before .before .before .before .numbers-of .result) (c .before .before .before .before .before .before .numbers-of .ensures) (c .before .before .before .before .before .entry-count .ensures .0) (c .before .if3 .left))
 
--- src/run.rt:73:16
 mul-size : tie.Need-mul-size
 mul-size c = omega (arith, c .before .before .before .before .before .before .before .before .before .before .numbers-of .ensures .within .M-most, c .before .before .before .before .before .before .before .before .before .before .numbers-of .ensures .within .τ-below-M)
 
--- src/run.rt:73:42
 sub-size : tie.Need-sub-size
 sub-size c = omega (arith, c .before .before .before .before .before .before .before .before .before .before .before .numbers-of .ensures .within .M-most, c .before .before .before .before .before .before .before .before .before .before .before .numbers-of .ensures .within .τ-below-M)
 
--- src/run.rt:73:36
 mul-size-2 : tie.Need-mul-size-2
 mul-size-2 c = omega (arith, c .before .before .before .before .before .before .before .before .before .before .before .numbers-of .ensures .within .M-most, c .before .before .before .before .before .before .before .before .before .before .before .numbers-of .ensures .within .τ-below-M)
 
--- src/run.rt:73:16
 add-size : tie.Need-add-size
 add-size c = omega (arith, c .before .before .before .before .before .before .before .before .before .before .before .numbers-of .ensures .within .M-most, c .before .before .before .before .before .before .before .before .before .before .before .numbers-of .ensures .within .τ-below-M)
 
--- src/run.rt:74:18
 slice-reshare-prefix-judge-run : tie.Need-slice-reshare-prefix-judge-run
 slice-reshare-prefix-judge-run c = search needs
 
--- src/run.rt:74:18
 slice-aggregate-judge-run : tie.Need-slice-aggregate-judge-run
 slice-aggregate-judge-run c = sym (front-long (c .before .before .before .before .before .before .before .before .before .before .before .before .before .before .before .before .before .before .before .args .key .now) (c .before .before .before .before .before .before .before .before .before .before .before .before .numbers-of .result) (c .before .before .before .before .before .before .before .before .before .before .before .before .numbers-of .ensures) (drop (entries (keyOf (c .before .before .before .before .before .before .before .before .before .before .before .before .before .before .before .before .before .before .before .args .key .now))) (c .before .before .before .before .before .before .before .before .before .before .before .before .before .before .before .before .before .before .before .args .entries .now)) (c .before .before .before .before .before .before .before .before .before .before .before .entry-count .ensures .0) (c .before .before .before .before .before .entries .ensures))
 
--- src/run.rt:74:42
 array-borrow-prefix-lists : tie.Need-array-borrow-prefix-lists
 array-borrow-prefix-lists c = omega (arith, c .before .before .before .before .before .before .before .before .before .before .before .before .numbers-of .ensures .within .M-most)
 
--- src/run.rt:74:42
 slice-aggregate-judge-run-2 : tie.Need-slice-aggregate-judge-run-2
 slice-aggregate-judge-run-2 c = sym (length-take-le (32 * c .before .before .before .before .before .before .before .before .before .before .before .before .before .numbers-of .result .executions + 64 * (c .before .before .before .before .before .before .before .before .before .before .before .before .before .numbers-of .result .executions - c .before .before .before .before .before .before .before .before .before .before .before .before .before .numbers-of .result .opened)) (replicate 3072 0) (omega (arith, c .before .before .before .before .before .before .before .before .before .before .before .before .before .numbers-of .ensures .within .M-most)))
 
--- src/run.rt:74:5
 judge-run-requires : tie.Need-judge-run-requires
 judge-run-requires c κs =
     let read = c .before .before .before .before .before .before .before .before .before .before .before .before .before .before .numbers-of .ensures in (
@@ -104,15 +79,12 @@ judge-run-requires c κs =
       ),
     )
 
--- src/run.rt:56:1
 same-length : tie.Need-same-length
 same-length c = search needs
 
--- src/run.rt:56:1
 same-length-2 : tie.Need-same-length-2
 same-length-2 c = search needs
 
--- src/run.rt:56:1
 returns-4 : tie.Need-returns-4
 returns-4 c =
     run-verdict (c .before .before .before .before .before .before .before .before .before .before .before .before .before .before .before .before .before .before .before .before .before .before .before .before .before .args .key .now) (c .before .before .before .before .before .before .before .before .before .before .before .before .before .before .before .before .before .before .before .before .before .before .before .before .before .args .run .now) (length (c .before .before .before .before .before .before .before .before .before .before .before .before .before .before .before .before .before .before .before .before .before .before .before .before .before .args .work .now)) (length (c .before .before .before .before .before .before .before .before .before .before .before .before .before .before .before .before .before .before .before .before .before .before .before .before .before .args .entries .now)) (fine (c .before .before .before .before .before .before .before .before .before .before .before .before .before .before .before .before .before .before .before)) (room-enough (c .before .before .before .before .before .before .before .before .before .before .before .before .before .before .before .before .before .before .before .before .before .before .before .before .before .args .key .now) (c .before .before .before .before .before .before .before .before .before .before .before .before .before .before .before .before .before .before .numbers-of .result) (c .before .before .before .before .before .before .before .before .before .before .before .before .before .before .before .before .before .before .numbers-of .ensures) (c .before .before .before .before .before .before .before .before .before .before .before .before .before .before .if2 .left) (omega (arith, c .before .before .before .before .before .before .before .before .before .before .before .before .before .if3 .left, c .before .before .before .before .before .before .before .before .before .before .before .before .before .before .before .before .before .entry-count .ensures .0)))

@@ -13,11 +13,6 @@ use Rattle.judge.proofs.Runs.{header-bad, header-good, parts-are, slice
 use borrow.Author.Needs.{needs}
 use Rattle.judge.proofs.run.judge_run.Statement.{statement}
 use Rattle.judge.proofs.run.judge_run.Tie as tie
-use Rattle.judge.proofs.run.judge_run.Reads as reads
-use Rattle.judge.proofs.run.judge_run.Lts as lts
-use Rattle.judge.proofs.parts.judge_parts.Reads as judge-parts-reads
-use Rattle.transcript.proofs.good_header.Reads as good-header-reads
-use Rattle.transcript.proofs.part_start.Reads as part-start-reads
 
 good : (c : tie.Else1) → goodHeader (keyWith (c .before .before .before .before .before .before .args .k) (c .before .before .before .before .before .before .args .entries .now)) (c .before .before .before .before .before .before .args .run .now) ≡ true
 good c = sym (c .before .good-header .ensures (keyWith (c .before .before .before .before .before .before .args .k) (c .before .before .before .before .before .before .args .entries .now)) (of-with (c .before .before .before .before .before .before .args .k) (c .before .before .before .before .before .before .args .entries .now))) ∙ not-false _ (c .if1 .left)
@@ -64,127 +59,96 @@ in5 c = slice-in (keyWith (c .before .before .before .before .before .before .be
 in6 : (c : tie.After-part-start7) → c .part-start7 .result ≤ length (c .before .before .before .before .before .before .before .before .before .before .before .before .before .args .run .now)
 in6 c = last-in (keyWith (c .before .before .before .before .before .before .before .before .before .before .before .before .before .args .k) (c .before .before .before .before .before .before .before .before .before .before .before .before .before .args .entries .now)) (c .before .before .before .before .before .before .before .before .before .before .before .before .before .args .run .now) (good (c .before .before .before .before .before .before .before)) (e6 c)
 
--- src/run.rt:24:9
 good-header-requires : tie.Need-good-header-requires
 good-header-requires c κs = search needs
 
--- src/run.rt:25:9
 returns : tie.Need-returns
 returns c = (header-bad (keyWith (c .before .before .before .before .before .before .args .k) (c .before .before .before .before .before .before .args .entries .now)) (c .before .before .before .before .before .before .args .run .now) (sym (c .before .good-header .ensures (keyWith (c .before .before .before .before .before .before .args .k) (c .before .before .before .before .before .before .args .entries .now)) (of-with (c .before .before .before .before .before .before .args .k) (c .before .before .before .before .before .before .args .entries .now))) ∙ not-true _ (c .if1 .taken)), ((λ z. absurd (let w : ⊥ = omega (arith, z) in w)), (refl, refl)))
 
--- src/run.rt:27:9
 part-start-requires : tie.Need-part-start-requires
 part-start-requires c κs = search needs
 
--- src/run.rt:28:9
 part-start-requires-2 : tie.Need-part-start-requires-2
 part-start-requires-2 c κs = search needs
 
--- src/run.rt:29:9
 part-start-requires-3 : tie.Need-part-start-requires-3
 part-start-requires-3 c κs = search needs
 
--- src/run.rt:30:9
 part-start-requires-4 : tie.Need-part-start-requires-4
 part-start-requires-4 c κs = search needs
 
--- src/run.rt:31:9
 part-start-requires-5 : tie.Need-part-start-requires-5
 part-start-requires-5 c κs = search needs
 
--- src/run.rt:32:9
 part-start-requires-6 : tie.Need-part-start-requires-6
 part-start-requires-6 c κs = search needs
 
--- src/run.rt:33:9
 part-start-requires-7 : tie.Need-part-start-requires-7
 part-start-requires-7 c κs = search needs
 
--- src/run.rt:37:9
 sub-judge-parts : tie.Need-sub-judge-parts
 sub-judge-parts c = omega (arith, in0 c .0, in0 c .1)
 
--- src/run.rt:37:9
 part-judge-parts-start : tie.Need-part-judge-parts-start
 part-judge-parts-start c = omega (arith, in0 c .0, in0 c .1)
 
--- src/run.rt:37:9
 part-judge-parts-end : tie.Need-part-judge-parts-end
 part-judge-parts-end c = omega (arith, in0 c .0, in0 c .1)
 
--- src/run.rt:38:9
 sub-judge-parts-2 : tie.Need-sub-judge-parts-2
 sub-judge-parts-2 c = omega (arith, in1 (c .before) .0, in1 (c .before) .1)
 
--- src/run.rt:38:9
 part-judge-parts-start-2 : tie.Need-part-judge-parts-start-2
 part-judge-parts-start-2 c = omega (arith, in1 (c .before) .0, in1 (c .before) .1)
 
--- src/run.rt:38:9
 part-judge-parts-end-2 : tie.Need-part-judge-parts-end-2
 part-judge-parts-end-2 c = omega (arith, in1 (c .before) .0, in1 (c .before) .1)
 
--- src/run.rt:39:9
 sub-judge-parts-3 : tie.Need-sub-judge-parts-3
 sub-judge-parts-3 c = omega (arith, in2 (c .before .before) .0, in2 (c .before .before) .1)
 
--- src/run.rt:39:9
 part-judge-parts-start-3 : tie.Need-part-judge-parts-start-3
 part-judge-parts-start-3 c = omega (arith, in2 (c .before .before) .0, in2 (c .before .before) .1)
 
--- src/run.rt:39:9
 part-judge-parts-end-3 : tie.Need-part-judge-parts-end-3
 part-judge-parts-end-3 c = omega (arith, in2 (c .before .before) .0, in2 (c .before .before) .1)
 
--- src/run.rt:40:9
 sub-judge-parts-4 : tie.Need-sub-judge-parts-4
 sub-judge-parts-4 c = omega (arith, in3 (c .before .before .before) .0, in3 (c .before .before .before) .1)
 
--- src/run.rt:40:9
 part-judge-parts-start-4 : tie.Need-part-judge-parts-start-4
 part-judge-parts-start-4 c = omega (arith, in3 (c .before .before .before) .0, in3 (c .before .before .before) .1)
 
--- src/run.rt:40:9
 part-judge-parts-end-4 : tie.Need-part-judge-parts-end-4
 part-judge-parts-end-4 c = omega (arith, in3 (c .before .before .before) .0, in3 (c .before .before .before) .1)
 
--- src/run.rt:41:9
 sub-judge-parts-5 : tie.Need-sub-judge-parts-5
 sub-judge-parts-5 c = omega (arith, in4 (c .before .before .before .before) .0, in4 (c .before .before .before .before) .1)
 
--- src/run.rt:41:9
 part-judge-parts-start-5 : tie.Need-part-judge-parts-start-5
 part-judge-parts-start-5 c = omega (arith, in4 (c .before .before .before .before) .0, in4 (c .before .before .before .before) .1)
 
--- src/run.rt:41:9
 part-judge-parts-end-5 : tie.Need-part-judge-parts-end-5
 part-judge-parts-end-5 c = omega (arith, in4 (c .before .before .before .before) .0, in4 (c .before .before .before .before) .1)
 
--- src/run.rt:42:9
 sub-judge-parts-6 : tie.Need-sub-judge-parts-6
 sub-judge-parts-6 c = omega (arith, in5 (c .before .before .before .before .before) .0, in5 (c .before .before .before .before .before) .1)
 
--- src/run.rt:42:9
 part-judge-parts-start-6 : tie.Need-part-judge-parts-start-6
 part-judge-parts-start-6 c = omega (arith, in5 (c .before .before .before .before .before) .0, in5 (c .before .before .before .before .before) .1)
 
--- src/run.rt:42:9
 part-judge-parts-end-6 : tie.Need-part-judge-parts-end-6
 part-judge-parts-end-6 c = omega (arith, in5 (c .before .before .before .before .before) .0, in5 (c .before .before .before .before .before) .1)
 
--- src/run.rt:43:9
 sub-judge-parts-7 : tie.Need-sub-judge-parts-7
 sub-judge-parts-7 c = omega (arith, in6 (c .before .before .before .before .before .before))
 
--- src/run.rt:43:9
 part-judge-parts-start-7 : tie.Need-part-judge-parts-start-7
 part-judge-parts-start-7 c = omega (arith, in6 (c .before .before .before .before .before .before))
 
--- src/run.rt:43:9
 part-judge-parts-end-7 : tie.Need-part-judge-parts-end-7
 part-judge-parts-end-7 c = omega (arith, in6 (c .before .before .before .before .before .before))
 
--- src/run.rt:34:5
 judge-parts-requires : tie.Need-judge-parts-requires
 judge-parts-requires c κs =
     let s = c .before .before .before .before .before .before .before .before .before .before .before .before .before .before .before .before .before .before .before .before .before .before in

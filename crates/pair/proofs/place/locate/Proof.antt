@@ -9,11 +9,6 @@ use Rattle.pair.proofs.Laws.{second-is, sixth-is, located}
 use borrow.Author.Needs.{needs}
 use Rattle.pair.proofs.place.locate.Statement.{statement}
 use Rattle.pair.proofs.place.locate.Tie as tie
-use Rattle.pair.proofs.place.locate.Reads as reads
-use Rattle.pair.proofs.place.locate.Lts as lts
-use Rattle.fork.proofs.execution_of.Reads as execution-of-reads
-use Rattle.fork.proofs.hidden_of.Reads as hidden-of-reads
-use Rattle.transcript.proofs.part_start.Reads as part-start-reads
 
 -- the slices lie in the files, and are parts 2 and 6
 in-p2 : (c : tie.After-part-start4) → (c .before .before .before .part-start .result ≤ c .before .before .part-start2 .result) × (c .before .before .part-start2 .result ≤ length (c .before .before .before .before .before .before .args .run1 .now))
@@ -40,119 +35,90 @@ is-r2 c = second-is (c .before .before .before .before .before .before .args .ru
 is-r6 : (c : tie.After-part-start4) → partsOf (c .before .before .before .before .before .before .args .run2 .now) .p6 ≡ take (c .part-start4 .result - c .before .part-start3 .result) (drop (c .before .part-start3 .result) (c .before .before .before .before .before .before .args .run2 .now))
 is-r6 c = sixth-is (c .before .before .before .before .before .before .args .run2 .now) (slice-is (c .before .before .before .before .before .before .args .k) (c .before .before .before .before .before .before .args .run2 .now) (c .before .before .before .before .before .before .pre .1 .1 .0) 5 (omega arith) (c .before .part-start3 .ensures .1) (c .part-start4 .ensures .1))
 
--- src/place.rt:30:9
 part-start-requires : tie.Need-part-start-requires
 part-start-requires c κs = search needs
 
--- src/place.rt:31:9
 part-start-requires-2 : tie.Need-part-start-requires-2
 part-start-requires-2 c κs = search needs
 
--- src/place.rt:32:9
 part-start-requires-3 : tie.Need-part-start-requires-3
 part-start-requires-3 c κs = search needs
 
--- src/place.rt:33:9
 part-start-requires-4 : tie.Need-part-start-requires-4
 part-start-requires-4 c κs = search needs
 
--- src/place.rt:34:35
 sub-execution-of : tie.Need-sub-execution-of
 sub-execution-of c = omega (arith, in-p2 (c) .0, in-p2 (c) .1)
 
--- src/place.rt:34:35
 part-execution-of-start : tie.Need-part-execution-of-start
 part-execution-of-start c = omega (arith, in-p2 (c) .0, in-p2 (c) .1)
 
--- src/place.rt:34:35
 part-execution-of-end : tie.Need-part-execution-of-end
 part-execution-of-end c = omega (arith, in-p2 (c) .0, in-p2 (c) .1)
 
--- src/place.rt:34:50
 sub-execution-of-2 : tie.Need-sub-execution-of-2
 sub-execution-of-2 c = omega (arith, in-p6 (c .before) .0, in-p6 (c .before) .1)
 
--- src/place.rt:34:50
 part-execution-of-start-2 : tie.Need-part-execution-of-start-2
 part-execution-of-start-2 c = omega (arith, in-p6 (c .before) .0, in-p6 (c .before) .1)
 
--- src/place.rt:34:50
 part-execution-of-end-2 : tie.Need-part-execution-of-end-2
 part-execution-of-end-2 c = omega (arith, in-p6 (c .before) .0, in-p6 (c .before) .1)
 
--- src/place.rt:34:65
 sub-execution-of-3 : tie.Need-sub-execution-of-3
 sub-execution-of-3 c = omega (arith, in-r6 (c .before .before) .0, in-r6 (c .before .before) .1)
 
--- src/place.rt:34:65
 part-execution-of-start-3 : tie.Need-part-execution-of-start-3
 part-execution-of-start-3 c = omega (arith, in-r6 (c .before .before) .0, in-r6 (c .before .before) .1)
 
--- src/place.rt:34:65
 part-execution-of-end-3 : tie.Need-part-execution-of-end-3
 part-execution-of-end-3 c = omega (arith, in-r6 (c .before .before) .0, in-r6 (c .before .before) .1)
 
--- src/place.rt:34:9
 execution-of-requires : tie.Need-execution-of-requires
 execution-of-requires c κs = search needs
 
--- src/place.rt:35:35
 sub-hidden-of : tie.Need-sub-hidden-of
 sub-hidden-of c = omega (arith, in-p2 (c .before .before .before .before) .0, in-p2 (c .before .before .before .before) .1)
 
--- src/place.rt:35:35
 part-hidden-of-start : tie.Need-part-hidden-of-start
 part-hidden-of-start c = omega (arith, in-p2 (c .before .before .before .before) .0, in-p2 (c .before .before .before .before) .1)
 
--- src/place.rt:35:35
 part-hidden-of-end : tie.Need-part-hidden-of-end
 part-hidden-of-end c = omega (arith, in-p2 (c .before .before .before .before) .0, in-p2 (c .before .before .before .before) .1)
 
--- src/place.rt:35:50
 sub-hidden-of-2 : tie.Need-sub-hidden-of-2
 sub-hidden-of-2 c = omega (arith, in-p6 (c .before .before .before .before .before) .0, in-p6 (c .before .before .before .before .before) .1)
 
--- src/place.rt:35:50
 part-hidden-of-start-2 : tie.Need-part-hidden-of-start-2
 part-hidden-of-start-2 c = omega (arith, in-p6 (c .before .before .before .before .before) .0, in-p6 (c .before .before .before .before .before) .1)
 
--- src/place.rt:35:50
 part-hidden-of-end-2 : tie.Need-part-hidden-of-end-2
 part-hidden-of-end-2 c = omega (arith, in-p6 (c .before .before .before .before .before) .0, in-p6 (c .before .before .before .before .before) .1)
 
--- src/place.rt:35:9
 hidden-of-requires : tie.Need-hidden-of-requires
 hidden-of-requires c κs = omega (arith, c .before .before .execution-of .ensures .1, c .before .before .before .before .before .before .before .before .before .before .before .before .pre .0 .M-most)
 
--- src/place.rt:36:35
 sub-hidden-of-3 : tie.Need-sub-hidden-of-3
 sub-hidden-of-3 c = omega (arith, in-r2 (c .before .before .before .before .before .before .before) .0, in-r2 (c .before .before .before .before .before .before .before) .1)
 
--- src/place.rt:36:35
 part-hidden-of-start-3 : tie.Need-part-hidden-of-start-3
 part-hidden-of-start-3 c = omega (arith, in-r2 (c .before .before .before .before .before .before .before) .0, in-r2 (c .before .before .before .before .before .before .before) .1)
 
--- src/place.rt:36:35
 part-hidden-of-end-3 : tie.Need-part-hidden-of-end-3
 part-hidden-of-end-3 c = omega (arith, in-r2 (c .before .before .before .before .before .before .before) .0, in-r2 (c .before .before .before .before .before .before .before) .1)
 
--- src/place.rt:36:50
 sub-hidden-of-4 : tie.Need-sub-hidden-of-4
 sub-hidden-of-4 c = omega (arith, in-r6 (c .before .before .before .before .before .before .before .before) .0, in-r6 (c .before .before .before .before .before .before .before .before) .1)
 
--- src/place.rt:36:50
 part-hidden-of-start-4 : tie.Need-part-hidden-of-start-4
 part-hidden-of-start-4 c = omega (arith, in-r6 (c .before .before .before .before .before .before .before .before) .0, in-r6 (c .before .before .before .before .before .before .before .before) .1)
 
--- src/place.rt:36:50
 part-hidden-of-end-4 : tie.Need-part-hidden-of-end-4
 part-hidden-of-end-4 c = omega (arith, in-r6 (c .before .before .before .before .before .before .before .before) .0, in-r6 (c .before .before .before .before .before .before .before .before) .1)
 
--- src/place.rt:36:9
 hidden-of-requires-2 : tie.Need-hidden-of-requires-2
 hidden-of-requires-2 c κs = omega (arith, c .before .before .before .before .before .execution-of .ensures .1, c .before .before .before .before .before .before .before .before .before .before .before .before .before .before .before .pre .0 .M-most)
 
--- src/place.rt:23:1
 returns : tie.Need-returns
 returns c =
     let s = c .before .before .before .before .before .before .before .before .before .before .before .before .before .before .before .before in

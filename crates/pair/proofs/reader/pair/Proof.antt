@@ -18,14 +18,6 @@ use Rattle.pair.proofs.Room.{Enough, enough-of}
 use borrow.Author.Needs.{needs}
 use Rattle.pair.proofs.reader.pair.Statement.{statement}
 use Rattle.pair.proofs.reader.pair.Tie as tie
-use Rattle.pair.proofs.reader.pair.Reads as reads
-use Rattle.pair.proofs.reader.pair.Lts as lts
-use Rattle.key.proofs.check.Reads as check-reads
-use Rattle.key.proofs.entries.Reads as entries-reads
-use Rattle.key.proofs.entry_count.Reads as entry-count-reads
-use Rattle.key.proofs.numbers_of.Reads as numbers-of-reads
-use Rattle.pair.proofs.place.room.Reads as room-reads
-use Rattle.pair.proofs.reader.read_runs.Reads as read-runs-reads
 
 fine : (c : tie.Else1) → first (keyChecks (keyOf (c .before .before .before .before .before .before .before .before .before .before .before .args .key .now)) (c .before .before .before .before .before .before .before .before .before .before .before .args .key .now)) ≡ accepted
 fine c = key-accepted (c .before .before .before .before .before .before .before .before .before .before .before .args .key .now) (sym (c .before .check .ensures) ∙ c .if1 .left)
@@ -38,46 +30,36 @@ lent : (c : tie.Else2)
     → Enough (c .before .before .numbers-of .result) (length (c .before .before .before .before .before .before .before .before .before .before .before .before .before .before .args .hash1 .now)) (length (c .before .before .before .before .before .before .before .before .before .before .before .before .before .before .args .hash2 .now)) (length (c .before .before .before .before .before .before .before .before .before .before .before .before .before .before .args .secret .now)) (length (c .before .before .before .before .before .before .before .before .before .before .before .before .before .before .args .uv .now)) (length (c .before .before .before .before .before .before .before .before .before .before .before .before .before .before .args .entries .now)) (length (c .before .before .before .before .before .before .before .before .before .before .before .before .before .before .args .work .now))
 lent c = enough-of _ _ _ _ _ _ _ (keyOf (c .before .before .before .before .before .before .before .before .before .before .before .before .before .before .args .key .now)) (c .before .before .numbers-of .ensures .of) (enough-is c)
 
--- src/reader.rt:176:9
 check-requires : tie.Need-check-requires
 check-requires c κs = search needs
 
--- src/reader.rt:178:9
 returns : tie.Need-returns
 returns c = key-refused (c .before .before .before .before .before .before .before .before .before .before .before .args .key .now) (lengths (length (c .before .before .before .before .before .before .before .before .before .before .before .args .hash1 .now)) (length (c .before .before .before .before .before .before .before .before .before .before .before .args .hash2 .now)) (length (c .before .before .before .before .before .before .before .before .before .before .before .args .secret .now)) (length (c .before .before .before .before .before .before .before .before .before .before .before .args .uv .now)) (length (c .before .before .before .before .before .before .before .before .before .before .before .args .entries .now)) (length (c .before .before .before .before .before .before .before .before .before .before .before .args .work .now))) (c .before .before .before .before .before .before .before .before .before .before .before .args .run1 .now) (c .before .before .before .before .before .before .before .before .before .before .before .args .run2 .now) refl refl refl refl refl (c .before .check .ensures) (c .if1 .taken)
 
--- src/reader.rt:180:9
 numbers-of-requires : tie.Need-numbers-of-requires
 numbers-of-requires c κs = fine c
 
--- src/reader.rt:181:9
 room-requires : tie.Need-room-requires
 room-requires c κs = search needs
 
--- src/reader.rt:190:9
 returns-2 : tie.Need-returns-2
 returns-2 c =
     let s = c .before .before .before .before .before .before .before .before .before .before .before .before .before .before in
     room-refused (s .args .key .now) (lengths (length (c .before .before .before .before .before .before .before .before .before .before .before .before .before .before .args .hash1 .now)) (length (c .before .before .before .before .before .before .before .before .before .before .before .before .before .before .args .hash2 .now)) (length (c .before .before .before .before .before .before .before .before .before .before .before .before .before .before .args .secret .now)) (length (c .before .before .before .before .before .before .before .before .before .before .before .before .before .before .args .uv .now)) (length (c .before .before .before .before .before .before .before .before .before .before .before .before .before .before .args .entries .now)) (length (c .before .before .before .before .before .before .before .before .before .before .before .before .before .before .args .work .now))) (s .args .run1 .now) (s .args .run2 .now) (fine (c .before .before .before)) refl refl refl refl refl
     (sym (c .before .room .ensures (keyOf (s .args .key .now)) (c .before .before .numbers-of .ensures .of)) ∙ not-true _ (c .if2 .taken))
 
--- src/reader.rt:192:5
 entries-requires : tie.Need-entries-requires
 entries-requires c κs = (fine (c .before .before .before .before), subst (λ (y : ℕ). y ≤ length (c .before .before .before .before .before .before .before .before .before .before .before .before .before .before .before .args .entries .now)) (entries-of _ (keyOf (c .before .before .before .before .before .before .before .before .before .before .before .before .before .before .before .args .key .now)) (c .before .before .before .numbers-of .ensures .of)) (lent (c .before) .rows))
 
--- src/reader.rt:193:9
 entry-count-requires : tie.Need-entry-count-requires
 entry-count-requires c κs = search needs
 
--- src/reader.rt:196:9
 slice-reshare-prefix-read-runs : tie.Need-slice-reshare-prefix-read-runs
 slice-reshare-prefix-read-runs c = omega (arith, c .entry-count .ensures .0, lent (c .before .before .before .before .before) .rows, c .before .before .before .entries .kept .1 .0)
 
--- src/reader.rt:196:9
 slice-aggregate-read-runs : tie.Need-slice-aggregate-read-runs
 slice-aggregate-read-runs c = sym (front-long (c .before .before .before .before .before .before .before .before .before .before .before .before .before .before .before .before .before .before .before .before .args .key .now) (c .before .before .before .before .before .before .before .before .numbers-of .result) (c .before .before .before .before .before .before .before .before .numbers-of .ensures) (drop (entries (keyOf (c .before .before .before .before .before .before .before .before .before .before .before .before .before .before .before .before .before .before .before .before .args .key .now))) (c .before .before .before .before .before .before .before .before .before .before .before .before .before .before .before .before .before .before .before .before .args .entries .now)) (c .before .entry-count .ensures .0) (c .before .before .before .before .entries .ensures))
 
--- src/reader.rt:194:5
 read-runs-requires : tie.Need-read-runs-requires
 read-runs-requires c κs =
     let read = c .before .before .before .before .before .before .before .before .before .before .before .before .before .numbers-of .ensures in
@@ -92,31 +74,24 @@ read-runs-requires c κs =
       ),
     )
 
--- src/reader.rt:163:1
 same-length : tie.Need-same-length
 same-length c = search needs
 
--- src/reader.rt:163:1
 same-length-2 : tie.Need-same-length-2
 same-length-2 c = search needs
 
--- src/reader.rt:163:1
 same-length-3 : tie.Need-same-length-3
 same-length-3 c = search needs
 
--- src/reader.rt:163:1
 same-length-4 : tie.Need-same-length-4
 same-length-4 c = search needs
 
--- src/reader.rt:163:1
 same-length-5 : tie.Need-same-length-5
 same-length-5 c = search needs
 
--- src/reader.rt:163:1
 same-length-6 : tie.Need-same-length-6
 same-length-6 c = search needs
 
--- src/reader.rt:163:1
 returns-3 : tie.Need-returns-3
 returns-3 c =
     let s = c .before .before .before .before .before .before .before .before .before .before .before .before .before .before .before .before .before .before .before .before .before .before .before .before .before .before .before .before .before .before .before .before .before .before .before .before in

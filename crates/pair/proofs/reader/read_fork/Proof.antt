@@ -14,12 +14,7 @@ use Rattle.pair.proofs.Answering.{seconds-equal, sound-one, sound-two, 
 use borrow.Author.Needs.{needs}
 use Rattle.pair.proofs.reader.read_fork.Statement.{statement}
 use Rattle.pair.proofs.reader.read_fork.Tie as tie
-use Rattle.pair.proofs.reader.read_fork.Reads as reads
-use Rattle.pair.proofs.reader.read_fork.Lts as lts
-use Rattle.pair.proofs.place.locate.Reads as locate-reads
-use Rattle.pair.proofs.sides.read_sides.Reads as read-sides-reads
 
--- src/reader.rt:48:9
 locate-requires : tie.Need-locate-requires
 locate-requires c κs =
     let s = c .before .before .before .before .before .before .before .before .before .before in
@@ -33,63 +28,48 @@ locate-requires c κs =
       ),
     )
 
--- src/reader.rt:54:16
 mul-size : tie.Need-mul-size
 mul-size c = search needs
 
--- src/reader.rt:54:31
 mul-size-2 : tie.Need-mul-size-2
 mul-size-2 c = search needs
 
--- src/reader.rt:54:16
 add-size : tie.Need-add-size
 add-size c = search needs
 
--- src/reader.rt:54:39
 mul-size-3 : tie.Need-mul-size-3
 mul-size-3 c = search needs
 
--- src/reader.rt:54:39
 mul-size-4 : tie.Need-mul-size-4
 mul-size-4 c = omega (arith, work-most (c .before .before .before .before .before .before .before .before .before .before .before .args .k .m) (c .before .before .before .before .before .before .before .before .before .before .before .args .k .parties) (c .before .before .before .before .before .before .before .before .before .before .before .pre .0 .m-most) (c .before .before .before .before .before .before .before .before .before .before .before .pre .0 .N-most), c .before .before .before .before .before .before .before .before .before .before .before .pre .0 .m-most, c .before .before .before .before .before .before .before .before .before .before .before .pre .0 .N-most)
 
--- src/reader.rt:54:16
 add-size-2 : tie.Need-add-size-2
 add-size-2 c = omega (arith, work-most (c .before .before .before .before .before .before .before .before .before .before .before .args .k .m) (c .before .before .before .before .before .before .before .before .before .before .before .args .k .parties) (c .before .before .before .before .before .before .before .before .before .before .before .pre .0 .m-most) (c .before .before .before .before .before .before .before .before .before .before .before .pre .0 .N-most), c .before .before .before .before .before .before .before .before .before .before .before .pre .0 .m-most, c .before .before .before .before .before .before .before .before .before .before .before .pre .0 .N-most)
 
--- src/reader.rt:54:16
 add-size-3 : tie.Need-add-size-3
 add-size-3 c = omega (arith, work-most (c .before .before .before .before .before .before .before .before .before .before .before .args .k .m) (c .before .before .before .before .before .before .before .before .before .before .before .args .k .parties) (c .before .before .before .before .before .before .before .before .before .before .before .pre .0 .m-most) (c .before .before .before .before .before .before .before .before .before .before .before .pre .0 .N-most), c .before .before .before .before .before .before .before .before .before .before .before .pre .0 .m-most, c .before .before .before .before .before .before .before .before .before .before .before .pre .0 .N-most)
 
--- src/reader.rt:55:17
 mul-count : tie.Need-mul-count
 mul-count c = search needs
 
--- src/reader.rt:66:9
 array-borrow-prefix-inputs1 : tie.Need-array-borrow-prefix-inputs1
 array-borrow-prefix-inputs1 c = omega (arith, size-most (c .before .before .before .before .before .before .before .before .before .before .before .args .k .m) (c .before .before .before .before .before .before .before .before .before .before .before .args .k .parties) (c .before .before .before .before .before .before .before .before .before .before .before .pre .0 .m-most) (c .before .before .before .before .before .before .before .before .before .before .before .pre .0 .N-most))
 
--- src/reader.rt:66:9
 slice-aggregate-read-sides : tie.Need-slice-aggregate-read-sides
 slice-aggregate-read-sides c = sym (length-take-le (executionSize (c .before .before .before .before .before .before .before .before .before .before .before .before .args .k .m) (c .before .before .before .before .before .before .before .before .before .before .before .before .args .k .parties)) (replicate 19632 0) (size-most (c .before .before .before .before .before .before .before .before .before .before .before .before .args .k .m) (c .before .before .before .before .before .before .before .before .before .before .before .before .args .k .parties) (c .before .before .before .before .before .before .before .before .before .before .before .before .pre .0 .m-most) (c .before .before .before .before .before .before .before .before .before .before .before .before .pre .0 .N-most)))
 
--- src/reader.rt:67:9
 array-borrow-prefix-inputs2 : tie.Need-array-borrow-prefix-inputs2
 array-borrow-prefix-inputs2 c = omega (arith, size-most (c .before .before .before .before .before .before .before .before .before .before .before .before .args .k .m) (c .before .before .before .before .before .before .before .before .before .before .before .before .args .k .parties) (c .before .before .before .before .before .before .before .before .before .before .before .before .pre .0 .m-most) (c .before .before .before .before .before .before .before .before .before .before .before .before .pre .0 .N-most))
 
--- src/reader.rt:67:9
 slice-aggregate-read-sides-2 : tie.Need-slice-aggregate-read-sides-2
 slice-aggregate-read-sides-2 c = sym (length-take-le (executionSize (c .before .before .before .before .before .before .before .before .before .before .before .before .before .args .k .m) (c .before .before .before .before .before .before .before .before .before .before .before .before .before .args .k .parties)) (replicate 19632 0) (size-most (c .before .before .before .before .before .before .before .before .before .before .before .before .before .args .k .m) (c .before .before .before .before .before .before .before .before .before .before .before .before .before .args .k .parties) (c .before .before .before .before .before .before .before .before .before .before .before .before .before .pre .0 .m-most) (c .before .before .before .before .before .before .before .before .before .before .before .before .before .pre .0 .N-most)))
 
--- src/reader.rt:68:9
 array-borrow-prefix-sums : tie.Need-array-borrow-prefix-sums
 array-borrow-prefix-sums c = search needs
 
--- src/reader.rt:68:9
 slice-aggregate-read-sides-3 : tie.Need-slice-aggregate-read-sides-3
 slice-aggregate-read-sides-3 c = sym (length-take-le (3 * c .before .before .before .before .before .before .before .before .before .before .before .before .before .before .args .k .m) (replicate 384 0) (omega (arith, c .before .before .before .before .before .before .before .before .before .before .before .before .before .before .pre .0 .m-most)))
 
--- src/reader.rt:56:5
 read-sides-requires : tie.Need-read-sides-requires
 read-sides-requires c κs =
     let s = c .before .before .before .before .before .before .before .before .before .before .before .before .before .before .before .before .before .before .before in
@@ -132,27 +112,21 @@ read-sides-requires c κs =
       ),
     )
 
--- src/reader.rt:23:1
 same-length : tie.Need-same-length
 same-length c = search needs
 
--- src/reader.rt:23:1
 same-length-2 : tie.Need-same-length-2
 same-length-2 c = search needs
 
--- src/reader.rt:23:1
 same-length-3 : tie.Need-same-length-3
 same-length-3 c = search needs
 
--- src/reader.rt:23:1
 same-length-4 : tie.Need-same-length-4
 same-length-4 c = search needs
 
--- src/reader.rt:23:1
 same-length-5 : tie.Need-same-length-5
 same-length-5 c = search needs
 
--- src/reader.rt:23:1
 returns : tie.Need-returns
 returns c =
     let s = c .before .before .before .before .before .before .before .before .before .before .before .before .before .before .before .before .before .before .before .before .before .before .before .before .before .before .before .before .before .before .before .before .before in

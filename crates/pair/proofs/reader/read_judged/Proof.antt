@@ -5,36 +5,26 @@ use Rattle.pair.proofs.Answering.{forks-of, forks-accepted, reads-refus
 use borrow.Author.Needs.{needs}
 use Rattle.pair.proofs.reader.read_judged.Statement.{statement}
 use Rattle.pair.proofs.reader.read_judged.Tie as tie
-use Rattle.pair.proofs.reader.read_judged.Reads as reads
-use Rattle.pair.proofs.reader.read_judged.Lts as lts
-use Rattle.accepted.proofs.refusal.Reads as refusal-reads
-use Rattle.pair.proofs.reader.read_fork.Reads as read-fork-reads
 
--- src/reader.rt:103:9
 refusal-requires : tie.Need-refusal-requires
 refusal-requires c κs =
     let p = c .before .before .before .before .before .before .before .before .before .before .before .before .before .pre in
     (p .0, (p .1 .1 .0, (p .1 .1 .1 .0, (p .1 .1 .1 .1 .0, p .1 .1 .1 .1 .1 .1 .1 .1 .1))))
 
--- src/reader.rt:105:9
 same-length : tie.Need-same-length
 same-length c = search needs
 
--- src/reader.rt:105:9
 same-length-2 : tie.Need-same-length-2
 same-length-2 c = search needs
 
--- src/reader.rt:105:9
 same-length-3 : tie.Need-same-length-3
 same-length-3 c = search needs
 
--- src/reader.rt:105:9
 returns : tie.Need-returns
 returns c =
     let a = c .before .before .before .before .before .before .before .before .before .before .before .before .before .before .before .before .before .before .before .before .before .args in
     reads-refused _ _ (a .hash1 .now) (a .hash2 .now) (a .secret .now) (a .uv .now) (c .before .before .before .before .before .before .before .refusal .ensures .0) (c .if1 .taken)
 
--- src/reader.rt:107:5
 read-fork-requires : tie.Need-read-fork-requires
 read-fork-requires c κs =
     let s = c .before .before .before .before .before .before .before .before .before .before .before .before .before .before .before .before .before .before .before .before .before .before .before .before .before .before .before .before in
@@ -54,35 +44,27 @@ read-fork-requires c κs =
       ),
     )
 
--- src/reader.rt:78:1
 same-length-4 : tie.Need-same-length-4
 same-length-4 c = search needs
 
--- src/reader.rt:78:1
 same-length-5 : tie.Need-same-length-5
 same-length-5 c = search needs
 
--- src/reader.rt:78:1
 same-length-6 : tie.Need-same-length-6
 same-length-6 c = search needs
 
--- src/reader.rt:78:1
 same-length-7 : tie.Need-same-length-7
 same-length-7 c = search needs
 
--- src/reader.rt:78:1
 same-length-8 : tie.Need-same-length-8
 same-length-8 c = search needs
 
--- src/reader.rt:78:1
 same-length-9 : tie.Need-same-length-9
 same-length-9 c = search needs
 
--- src/reader.rt:78:1
 same-length-10 : tie.Need-same-length-10
 same-length-10 c = search needs
 
--- src/reader.rt:78:1
 returns-2 : tie.Need-returns-2
 returns-2 c =
     let s = c .before .before .before .before .before .before .before .before .before .before .before .before .before .before .before .before .before .before .before .before .before .before .before .before .before .before .before .before .before .before .before .before .before .before .before .before .before .before .before in

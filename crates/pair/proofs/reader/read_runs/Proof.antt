@@ -7,70 +7,52 @@ use lib.Seq.{length-take-le}
 use borrow.Author.Needs.{needs}
 use Rattle.pair.proofs.reader.read_runs.Statement.{statement}
 use Rattle.pair.proofs.reader.read_runs.Tie as tie
-use Rattle.pair.proofs.reader.read_runs.Reads as reads
-use Rattle.pair.proofs.reader.read_runs.Lts as lts
-use Rattle.pair.proofs.reader.read_judged.Reads as read-judged-reads
 
--- src/reader.rt:146:16
 mul-size : tie.Need-mul-size
 mul-size c = search needs
 
--- src/reader.rt:146:42
 sub-size : tie.Need-sub-size
 sub-size c = search needs
 
--- src/reader.rt:146:36
 mul-size-2 : tie.Need-mul-size-2
 mul-size-2 c = search needs
 
--- src/reader.rt:146:16
 add-size : tie.Need-add-size
 add-size c = search needs
 
--- src/reader.rt:152:9
 array-borrow-prefix-lists1 : tie.Need-array-borrow-prefix-lists1
 array-borrow-prefix-lists1 c = search needs
 
--- src/reader.rt:152:9
 slice-aggregate-read-judged : tie.Need-slice-aggregate-read-judged
 slice-aggregate-read-judged c = sym (length-take-le (32 * c .before .before .before .before .before .before .before .before .before .before .before .args .k .executions + 64 * (c .before .before .before .before .before .before .before .before .before .before .before .args .k .executions - c .before .before .before .before .before .before .before .before .before .before .before .args .k .opened)) (replicate 3072 0) (omega (arith, c .before .before .before .before .before .before .before .before .before .before .before .pre .0 .M-most)))
 
--- src/reader.rt:153:9
 array-borrow-prefix-lists2 : tie.Need-array-borrow-prefix-lists2
 array-borrow-prefix-lists2 c = search needs
 
--- src/reader.rt:153:9
 slice-aggregate-read-judged-2 : tie.Need-slice-aggregate-read-judged-2
 slice-aggregate-read-judged-2 c = sym (length-take-le (32 * c .before .before .before .before .before .before .before .before .before .before .before .before .args .k .executions + 64 * (c .before .before .before .before .before .before .before .before .before .before .before .before .args .k .executions - c .before .before .before .before .before .before .before .before .before .before .before .before .args .k .opened)) (replicate 3072 0) (omega (arith, c .before .before .before .before .before .before .before .before .before .before .before .before .pre .0 .M-most)))
 
--- src/reader.rt:147:5
 read-judged-requires : tie.Need-read-judged-requires
 read-judged-requires c κs =
     let p = c .before .before .before .before .before .before .before .before .before .before .before .before .before .before .before .before .before .pre in
     let lists = length-take-le {A = ℕ} (32 * c .before .before .before .before .before .before .before .before .before .before .before .before .before .before .before .before .before .args .k .executions + 64 * (c .before .before .before .before .before .before .before .before .before .before .before .before .before .before .before .before .before .args .k .executions - c .before .before .before .before .before .before .before .before .before .before .before .before .before .before .before .before .before .args .k .opened)) (replicate 3072 0) (omega (arith, p .0 .M-most)) in
     (p .0, (p .1 .0, (p .1 .1 .0, (lists, (lists, (p .1 .1 .1 .0, (p .1 .1 .1 .1 .0, (p .1 .1 .1 .1 .1 .0, (p .1 .1 .1 .1 .1 .1 .0, p .1 .1 .1 .1 .1 .1 .1)))))))))
 
--- src/reader.rt:123:1
 same-length : tie.Need-same-length
 same-length c = search needs
 
--- src/reader.rt:123:1
 same-length-2 : tie.Need-same-length-2
 same-length-2 c = search needs
 
--- src/reader.rt:123:1
 same-length-3 : tie.Need-same-length-3
 same-length-3 c = search needs
 
--- src/reader.rt:123:1
 same-length-4 : tie.Need-same-length-4
 same-length-4 c = search needs
 
--- src/reader.rt:123:1
 same-length-5 : tie.Need-same-length-5
 same-length-5 c = search needs
 
--- src/reader.rt:123:1
 returns : tie.Need-returns
 returns c = search needs
 

@@ -10,31 +10,22 @@ use Rattle.pair.proofs.Laws.{limits-in}
 use borrow.Author.Needs.{needs}
 use Rattle.pair.proofs.sides.open_both.Statement.{statement}
 use Rattle.pair.proofs.sides.open_both.Tie as tie
-use Rattle.pair.proofs.sides.open_both.Reads as reads
-use Rattle.pair.proofs.sides.open_both.Lts as lts
-use Rattle.joined.proofs.join_open.Reads as join-open-reads
-use Rattle.joined.proofs.join_party.Reads as join-party-reads
-use Rattle.side.proofs.open_side.Reads as open-side-reads
 
--- src/sides.rt:42:5
 open-side-requires : tie.Need-open-side-requires
 open-side-requires c κs =
     let p = c .before .before .before .before .before .before .before .before .before .pre in
     (p .0, (p .1 .0, (p .1 .1 .1 .1 .0, (p .1 .1 .1 .1 .1 .0, p .1 .1 .1 .1 .1 .1 .1 .1))))
 
--- src/sides.rt:43:5
 join-open-requires : tie.Need-join-open-requires
 join-open-requires c κs =
     let p = c .before .before .before .before .before .before .before .before .before .before .before .before .before .before .before .before .pre in
     (limits-in (p .0), (omega (arith, p .1 .1 .1 .1 .1 .1 .1 .1, c .before .before .before .before .before .before .open-side .ensures .1 .1), p .1 .1 .1 .1 .1 .1 .1 .0))
 
--- src/sides.rt:44:5
 open-side-requires-2 : tie.Need-open-side-requires-2
 open-side-requires-2 c κs =
     let p = c .before .before .before .before .before .before .before .before .before .before .before .before .before .before .before .before .before .before .before .before .before .pre in
     (p .0, (p .1 .1 .0, (p .1 .1 .1 .1 .0, (p .1 .1 .1 .1 .1 .1 .0, omega (arith, p .1 .1 .1 .1 .1 .1 .1 .1, c .before .before .before .before .before .before .before .before .before .before .before .open-side .ensures .1 .1)))))
 
--- src/sides.rt:45:5
 join-party-requires : tie.Need-join-party-requires
 join-party-requires c κs =
     let p = c .before .before .before .before .before .before .before .before .before .before .before .before .before .before .before .before .before .before .before .before .before .before .before .before .before .before .before .before .pre in (
@@ -48,23 +39,18 @@ join-party-requires c κs =
       ),
     )
 
--- src/sides.rt:18:1
 same-length : tie.Need-same-length
 same-length c = search needs
 
--- src/sides.rt:18:1
 same-length-2 : tie.Need-same-length-2
 same-length-2 c = search needs
 
--- src/sides.rt:18:1
 same-length-3 : tie.Need-same-length-3
 same-length-3 c = search needs
 
--- src/sides.rt:18:1
 same-length-4 : tie.Need-same-length-4
 same-length-4 c = search needs
 
--- src/sides.rt:18:1
 returns : tie.Need-returns
 returns c =
     let s = c .before .before .before .before .before .before .before .before .before .before .before .before .before .before .before .before .before .before .before .before .before .before .before .before .before .before .before .before .before .before .before in

@@ -4,18 +4,12 @@ use Rattle.protocol.specs.Transcript.{partsOf}
 use borrow.Author.Needs.{needs}
 use Rattle.pair.proofs.sides.read_sides.Statement.{statement}
 use Rattle.pair.proofs.sides.read_sides.Tie as tie
-use Rattle.pair.proofs.sides.read_sides.Reads as reads
-use Rattle.pair.proofs.sides.read_sides.Lts as lts
-use Rattle.finding.proofs.find.Reads as find-reads
-use Rattle.pair.proofs.sides.open_both.Reads as open-both-reads
 
--- src/sides.rt:85:5
 open-both-requires : tie.Need-open-both-requires
 open-both-requires c κs =
     let p = c .before .before .before .before .before .before .before .before .before .before .before .before .before .before .before .before .before .pre in
     (p .0, (p .1 .0, (p .1 .1 .0, (p .1 .1 .1 .0, (p .1 .1 .1 .1 .1 .1 .0, (p .1 .1 .1 .1 .1 .1 .1 .0, (p .1 .1 .1 .1 .1 .1 .1 .1 .0, (p .1 .1 .1 .1 .1 .1 .1 .1 .1 .0, p .1 .1 .1 .1 .1 .1 .1 .1 .1 .1 .1 .1 .1 .1))))))))
 
--- src/sides.rt:98:5
 find-requires : tie.Need-find-requires
 find-requires c κs =
     let p = c .before .before .before .before .before .before .before .before .before .before .before .before .before .before .before .before .before .before .before .before .before .before .before .before .before .before .before .before .before .before .before .before .before .pre in
@@ -30,39 +24,30 @@ find-requires c κs =
       ),
     )
 
--- src/sides.rt:49:1
 same-length : tie.Need-same-length
 same-length c = search needs
 
--- src/sides.rt:49:1
 same-length-2 : tie.Need-same-length-2
 same-length-2 c = search needs
 
--- src/sides.rt:49:1
 same-length-3 : tie.Need-same-length-3
 same-length-3 c = search needs
 
--- src/sides.rt:49:1
 same-length-4 : tie.Need-same-length-4
 same-length-4 c = search needs
 
--- src/sides.rt:49:1
 same-length-5 : tie.Need-same-length-5
 same-length-5 c = search needs
 
--- src/sides.rt:49:1
 same-length-6 : tie.Need-same-length-6
 same-length-6 c = search needs
 
--- src/sides.rt:49:1
 same-length-7 : tie.Need-same-length-7
 same-length-7 c = search needs
 
--- src/sides.rt:49:1
 same-length-8 : tie.Need-same-length-8
 same-length-8 c = search needs
 
--- src/sides.rt:49:1
 returns : tie.Need-returns
 returns c =
     let s = c .before .before .before .before .before .before .before .before .before .before .before .before .before .before .before .before .before .before .before .before .before .before .before .before .before .before .before .before .before .before .before .before .before .before .before .before .before .before .before .before .before .before in

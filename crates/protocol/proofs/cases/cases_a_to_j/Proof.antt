@@ -1,7 +1,7 @@
 -- The table of cases, by computation: one proof for all rows. Assumes nothing.
 use mathlib.Core.Path.{refl}
 use Rattle.lists.specs.Tab.{tab}
-use Rattle.lists.specs.Index.{every, count, member, holds}
+use Rattle.lists.specs.Index.{every, count, holds}
 use Rattle.numbers.specs.Mod.{sub}
 use Rattle.numbers.specs.Sum.{sum}
 use Rattle.numbers.specs.Inverse.{inverseOf}

@@ -1,10 +1,8 @@
+-- The theorem is that of `Acceptance`. Assumes nothing.
 use Rattle.protocol.proofs.Acceptance.{honest-accepted}
 use Rattle.protocol.proofs.honest.honest_acceptance.Statement.{statement}
 use Rattle.protocol.proofs.honest.honest_acceptance.Tie as tie
-use Rattle.protocol.proofs.honest.honest_acceptance.Reads as reads
-use Rattle.protocol.proofs.honest.honest_acceptance.Lts as lts
 
--- src/honest.rt:14:1
 returns : tie.Need-returns
 returns c = honest-accepted
 

@@ -1,3 +1,4 @@
+-- Both directions are those of `Facts`. Assumes nothing.
 use Rattle.protocol.proofs.Facts.{accepts, accepted-by}
 use Rattle.protocol.proofs.pairs.accepted_means.Statement.{statement}
 use Rattle.protocol.proofs.pairs.accepted_means.Tie as tie

@@ -1,3 +1,4 @@
+-- The theorem is that of `Demand3`. Assumes nothing.
 use Rattle.protocol.proofs.Demand3.{demand-3}
 use Rattle.protocol.proofs.pairs.demand_3.Statement.{statement}
 use Rattle.protocol.proofs.pairs.demand_3.Tie as tie

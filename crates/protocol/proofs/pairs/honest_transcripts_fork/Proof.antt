@@ -1,3 +1,4 @@
+-- The theorem is that of `Demand3Witness`. Assumes nothing.
 use Rattle.protocol.proofs.Demand3Witness.{honest-forked}
 use Rattle.protocol.proofs.pairs.honest_transcripts_fork.Statement.{statement}
 use Rattle.protocol.proofs.pairs.honest_transcripts_fork.Tie as tie

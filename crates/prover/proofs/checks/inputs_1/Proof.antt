@@ -1,19 +1,15 @@
+-- `inputs_1` makes the one test of message 1's inputs. Assumes nothing.
 use Rattle.prover.proofs.Laws.{seeds-wrong, seeds-right}
 use borrow.Author.Needs.{needs}
 use Rattle.prover.proofs.checks.inputs_1.Statement.{statement}
 use Rattle.prover.proofs.checks.inputs_1.Tie as tie
-use Rattle.prover.proofs.checks.inputs_1.Reads as reads
-use Rattle.prover.proofs.checks.inputs_1.Lts as lts
 
--- src/checks.rt:41:23
 mul-if1 : tie.Need-mul-if1
 mul-if1 c = search needs
 
--- src/checks.rt:42:9
 returns : tie.Need-returns
 returns c = λ K e. seeds-wrong K _ _ e (c .if1 .taken)
 
--- src/checks.rt:37:1
 returns-2 : tie.Need-returns-2
 returns-2 c = λ K e. seeds-right K _ _ e (c .if1 .left)
 

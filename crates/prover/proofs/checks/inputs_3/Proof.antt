@@ -1,3 +1,4 @@
+-- `inputs_3` tests the lengths, then the statement. Assumes nothing.
 use Rattle.protocol.specs.Key.{keyOf}
 use mathlib.Core.Path.{sym, _∙_}
 use mathlib.Core.List.{[]}
@@ -6,30 +7,22 @@ use Rattle.prover.proofs.Laws.{inputs3-6, inputs3-rest, secret-long}
 use borrow.Author.Needs.{needs}
 use Rattle.prover.proofs.checks.inputs_3.Statement.{statement}
 use Rattle.prover.proofs.checks.inputs_3.Tie as tie
-use Rattle.prover.proofs.checks.inputs_3.Reads as reads
-use Rattle.prover.proofs.checks.inputs_3.Lts as lts
-use Rattle.prover.proofs.checks.sized.Reads as sized-reads
-use Rattle.prover.proofs.checks.statement.Reads as statement-reads
 
--- src/checks.rt:131:9
 sized-requires : tie.Need-sized-requires
 sized-requires c κs = search needs
 
--- src/checks.rt:132:9
 returns : tie.Need-returns
 returns c =
     let a = c .before .before .before .before .before .before .before .args in
     let of = c .before .before .before .before .before .before .before .pre .of in
     inputs3-6 (keyOf (a .key .now)) _ _ _ _ (sym (c .before .sized .ensures .is (keyOf (a .key .now)) (sym (of .m-is)) (sym (of .M-is))) ∙ not-true _ (c .if1 .taken))
 
--- src/checks.rt:134:5
 statement-requires : tie.Need-statement-requires
 statement-requires c κs =
     let a = c .before .before .before .before .before .before .before .args in
     let p = c .before .before .before .before .before .before .before .pre in
     (p, secret-long (keyOf (a .key .now)) (a .seeds .now) (a .secret .now) [] (a .kappa .now) (sym (c .before .sized .ensures .is (keyOf (a .key .now)) (sym (p .of .m-is)) (sym (p .of .M-is))) ∙ not-false _ (c .if1 .left)) ∙ sym (p .of .m-is))
 
--- src/checks.rt:127:1
 returns-2 : tie.Need-returns-2
 returns-2 c =
     let a = c .before .before .before .before .before .before .before .before .args in

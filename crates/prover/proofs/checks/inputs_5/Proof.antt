@@ -1,3 +1,4 @@
+-- `inputs_5` tests the lengths, L's among them, then the statement. Assumes nothing.
 use Rattle.protocol.specs.Key.{keyOf}
 use mathlib.Core.Path.{sym, _∙_}
 use mathlib.Core.List.{[]}
@@ -6,37 +7,28 @@ use Rattle.prover.proofs.Laws.{inputs5-6, inputs5-seed, inputs5-rest, s
 use borrow.Author.Needs.{needs}
 use Rattle.prover.proofs.checks.inputs_5.Statement.{statement}
 use Rattle.prover.proofs.checks.inputs_5.Tie as tie
-use Rattle.prover.proofs.checks.inputs_5.Reads as reads
-use Rattle.prover.proofs.checks.inputs_5.Lts as lts
-use Rattle.prover.proofs.checks.sized.Reads as sized-reads
-use Rattle.prover.proofs.checks.statement.Reads as statement-reads
 
--- src/checks.rt:150:9
 sized-requires : tie.Need-sized-requires
 sized-requires c κs = search needs
 
--- src/checks.rt:151:9
 returns : tie.Need-returns
 returns c =
     let a = c .before .before .before .before .before .before .before .before .args in
     let of = c .before .before .before .before .before .before .before .before .pre .of in
     inputs5-6 (keyOf (a .key .now)) _ _ _ _ _ (sym (c .before .sized .ensures .is (keyOf (a .key .now)) (sym (of .m-is)) (sym (of .M-is))) ∙ not-true _ (c .if1 .taken))
 
--- src/checks.rt:154:9
 returns-2 : tie.Need-returns-2
 returns-2 c =
     let a = c .before .before .before .before .before .before .before .before .before .args in
     let of = c .before .before .before .before .before .before .before .before .before .pre .of in
     inputs5-seed (keyOf (a .key .now)) _ _ _ _ _ (sym (c .before .before .sized .ensures .is (keyOf (a .key .now)) (sym (of .m-is)) (sym (of .M-is))) ∙ not-false _ (c .before .if1 .left)) (c .if2 .taken)
 
--- src/checks.rt:156:5
 statement-requires : tie.Need-statement-requires
 statement-requires c κs =
     let a = c .before .before .before .before .before .before .before .before .before .args in
     let p = c .before .before .before .before .before .before .before .before .before .pre in
     (p, secret-long (keyOf (a .key .now)) (a .seeds .now) (a .secret .now) [] (a .kappa .now) (sym (c .before .before .sized .ensures .is (keyOf (a .key .now)) (sym (p .of .m-is)) (sym (p .of .M-is))) ∙ not-false _ (c .before .if1 .left)) ∙ sym (p .of .m-is))
 
--- src/checks.rt:138:1
 returns-3 : tie.Need-returns-3
 returns-3 c =
     let a = c .before .before .before .before .before .before .before .before .before .before .args in

@@ -1,13 +1,10 @@
+-- `inputs_7` tests the hidden list after message 5's inputs. Assumes nothing.
 use mathlib.Core.Path.{sym, _∙_}
 use borrow.Author.Tests.{not-true, not-false}
 use Rattle.prover.proofs.Laws.{inputs7-5, inputs7-10, inputs7-0}
 use borrow.Author.Needs.{needs}
 use Rattle.prover.proofs.checks.inputs_7.Statement.{statement}
 use Rattle.prover.proofs.checks.inputs_7.Tie as tie
-use Rattle.prover.proofs.checks.inputs_7.Reads as reads
-use Rattle.prover.proofs.checks.inputs_7.Lts as lts
-use Rattle.forms.proofs.good_hidden.Reads as good-hidden-reads
-use Rattle.prover.proofs.checks.inputs_5.Reads as inputs-5-reads
 
 inputs-5-requires : tie.Need-inputs-5-requires
 inputs-5-requires c κs = search needs

@@ -1,47 +1,32 @@
+-- `refusal_1` tests the key, the inputs and the lent lists in this order. Assumes nothing.
 use mathlib.Core.Path.{sym, _∙_}
-use native.Mathlib.Omega.{arith}
 use Rattle.key.specs.KeyLaws.{key-accepted}
-use Rattle.protocol.specs.Key.{keyOf}
-use Rattle.protocol.specs.Prover.{message1}
 use Rattle.protocol.proofs.Sizes.{message1-length}
 use Rattle.prover.proofs.Laws.{refusal1-key, refusal1-inputs, refusal1-lent}
 use borrow.Author.Needs.{needs}
 use Rattle.prover.proofs.checks.refusal_1.Statement.{statement}
 use Rattle.prover.proofs.checks.refusal_1.Tie as tie
-use Rattle.prover.proofs.checks.refusal_1.Reads as reads
-use Rattle.prover.proofs.checks.refusal_1.Lts as lts
-use Rattle.key.proofs.check.Reads as check-reads
-use Rattle.key.proofs.numbers_of.Reads as numbers-of-reads
-use Rattle.prover.proofs.checks.inputs_1.Reads as inputs-1-reads
-use Rattle.prover.proofs.checks.lent.Reads as lent-reads
 
--- src/checks.rt:62:9
 check-requires : tie.Need-check-requires
 check-requires c κs = search needs
 
--- src/checks.rt:64:9
 returns : tie.Need-returns
 returns c = refusal1-key _ _ _ _ _ _ (c .before .check .ensures) (c .if1 .taken)
 
--- src/checks.rt:66:9
 numbers-of-requires : tie.Need-numbers-of-requires
 numbers-of-requires c κs = key-accepted _ (sym (c .before .check .ensures) ∙ c .if1 .left)
 
--- src/checks.rt:68:9
 inputs-1-requires : tie.Need-inputs-1-requires
 inputs-1-requires c κs = search needs
 
--- src/checks.rt:70:9
 returns-2 : tie.Need-returns-2
 returns-2 c =
     let e = c .before .before .before in
     refusal1-inputs _ _ _ _ _ _ (key-accepted _ (sym (e .before .check .ensures) ∙ e .if1 .left)) (c .before .inputs-1 .ensures _ (sym (c .before .before .numbers-of .ensures .of .M-is))) (c .if2 .taken)
 
--- src/checks.rt:72:5
 lent-requires : tie.Need-lent-requires
 lent-requires c κs = search needs
 
--- src/checks.rt:59:1
 returns-3 : tie.Need-returns-3
 returns-3 c =
     let e = c .before .before .before .before in

@@ -1,48 +1,34 @@
+-- `refusal_3` tests the key, the inputs and the lent lists in this order. Assumes nothing.
 use mathlib.Core.Path.{sym, _∙_}
 use Rattle.key.specs.KeyLaws.{key-accepted}
 use Rattle.prover.proofs.Laws.{refusal3-key, refusal3-inputs, refusal3-lent}
 use borrow.Author.Needs.{needs}
 use Rattle.prover.proofs.checks.refusal_3.Statement.{statement}
 use Rattle.prover.proofs.checks.refusal_3.Tie as tie
-use Rattle.prover.proofs.checks.refusal_3.Reads as reads
-use Rattle.prover.proofs.checks.refusal_3.Lts as lts
-use Rattle.key.proofs.check.Reads as check-reads
-use Rattle.key.proofs.numbers_of.Reads as numbers-of-reads
-use Rattle.prover.proofs.checks.inputs_3.Reads as inputs-3-reads
-use Rattle.prover.proofs.checks.lent.Reads as lent-reads
-use Rattle.prover.proofs.checks.size_3.Reads as size-3-reads
 
--- src/checks.rt:182:9
 check-requires : tie.Need-check-requires
 check-requires c κs = search needs
 
--- src/checks.rt:184:9
 returns : tie.Need-returns
 returns c = refusal3-key _ _ _ _ _ _ _ _ _ (c .before .check .ensures) (c .if1 .taken)
 
--- src/checks.rt:186:9
 numbers-of-requires : tie.Need-numbers-of-requires
 numbers-of-requires c κs = key-accepted _ (sym (c .before .check .ensures) ∙ c .if1 .left)
 
--- src/checks.rt:187:9
 inputs-3-requires : tie.Need-inputs-3-requires
 inputs-3-requires c κs = search needs
 
--- src/checks.rt:189:9
 returns-2 : tie.Need-returns-2
 returns-2 c =
     let e = c .before .before .before in
     refusal3-inputs _ _ _ _ _ _ _ _ _ (key-accepted _ (sym (e .before .check .ensures) ∙ e .if1 .left)) (c .before .inputs-3 .ensures) (c .if2 .taken)
 
--- src/checks.rt:191:9
 size-3-requires : tie.Need-size-3-requires
 size-3-requires c κs = search needs
 
--- src/checks.rt:192:5
 lent-requires : tie.Need-lent-requires
 lent-requires c κs = search needs
 
--- src/checks.rt:169:1
 returns-3 : tie.Need-returns-3
 returns-3 c =
     let e = c .before .before .before .before .before in

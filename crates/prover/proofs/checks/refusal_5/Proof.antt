@@ -1,15 +1,10 @@
+-- `refusal_5` tests the key, the inputs and the lent lists in this order. Assumes nothing.
 use mathlib.Core.Path.{sym, _∙_}
 use Rattle.key.specs.KeyLaws.{key-accepted}
 use Rattle.prover.proofs.Laws.{refusal5-key, refusal5-inputs, refusal5-lent}
 use borrow.Author.Needs.{needs}
 use Rattle.prover.proofs.checks.refusal_5.Statement.{statement}
 use Rattle.prover.proofs.checks.refusal_5.Tie as tie
-use Rattle.prover.proofs.checks.refusal_5.Reads as reads
-use Rattle.prover.proofs.checks.refusal_5.Lts as lts
-use Rattle.key.proofs.check.Reads as check-reads
-use Rattle.key.proofs.numbers_of.Reads as numbers-of-reads
-use Rattle.prover.proofs.checks.inputs_5.Reads as inputs-5-reads
-use Rattle.prover.proofs.checks.lent.Reads as lent-reads
 
 check-requires : tie.Need-check-requires
 check-requires c κs = search needs

@@ -1,16 +1,10 @@
+-- `refusal_7` tests the key, the inputs and the lent lists in this order. Assumes nothing.
 use mathlib.Core.Path.{sym, _∙_}
 use Rattle.key.specs.KeyLaws.{key-accepted}
 use Rattle.prover.proofs.Laws.{refusal7-key, refusal7-inputs, refusal7-lent}
 use borrow.Author.Needs.{needs}
 use Rattle.prover.proofs.checks.refusal_7.Statement.{statement}
 use Rattle.prover.proofs.checks.refusal_7.Tie as tie
-use Rattle.prover.proofs.checks.refusal_7.Reads as reads
-use Rattle.prover.proofs.checks.refusal_7.Lts as lts
-use Rattle.key.proofs.check.Reads as check-reads
-use Rattle.key.proofs.numbers_of.Reads as numbers-of-reads
-use Rattle.prover.proofs.checks.inputs_7.Reads as inputs-7-reads
-use Rattle.prover.proofs.checks.lent.Reads as lent-reads
-use Rattle.transcript.proofs.replies_length.Reads as replies-length-reads
 
 check-requires : tie.Need-check-requires
 check-requires c κs = search needs

@@ -1,27 +1,21 @@
+-- `sized` tests three lengths. Assumes nothing.
 use Rattle.prover.proofs.Laws.{sized-1, sized-2, sized-3, sized-4}
 use borrow.Author.Needs.{needs}
 use Rattle.prover.proofs.checks.sized.Statement.{statement}
 use Rattle.prover.proofs.checks.sized.Tie as tie
-use Rattle.prover.proofs.checks.sized.Reads as reads
-use Rattle.prover.proofs.checks.sized.Lts as lts
 
--- src/checks.rt:96:23
 mul-if1 : tie.Need-mul-if1
 mul-if1 c = search needs
 
--- src/checks.rt:97:9
 returns : tie.Need-returns
 returns c = sized-1 (c .if1 .taken)
 
--- src/checks.rt:100:9
 returns-2 : tie.Need-returns-2
 returns-2 c = sized-2 (c .before .if1 .left) (c .if2 .taken)
 
--- src/checks.rt:103:9
 returns-3 : tie.Need-returns-3
 returns-3 c = sized-3 (c .before .before .if1 .left) (c .before .if2 .left) (c .if3 .taken)
 
--- src/checks.rt:92:1
 returns-4 : tie.Need-returns-4
 returns-4 c = sized-4 (c .before .before .if1 .left) (c .before .if2 .left) (c .if3 .left)
 

@@ -1,41 +1,31 @@
+-- `statement` tests E, the secret's entries and A·s = t in this order. Assumes nothing.
 use mathlib.Core.Path.{sym, _∙_}
 use borrow.Author.Tests.{not-true, not-false}
 use Rattle.prover.proofs.Laws.{statement-7, statement-8, statement-9, statement-0}
 use borrow.Author.Needs.{needs}
 use Rattle.prover.proofs.checks.statement.Statement.{statement}
 use Rattle.prover.proofs.checks.statement.Tie as tie
-use Rattle.prover.proofs.checks.statement.Reads as reads
-use Rattle.prover.proofs.checks.statement.Lts as lts
-use Rattle.forms.proofs.good_opened.Reads as good-opened-reads
-use Rattle.forms.proofs.is_binary.Reads as is-binary-reads
-use Rattle.forms.proofs.is_solution.Reads as is-solution-reads
 
--- src/checks.rt:114:9
 good-opened-requires : tie.Need-good-opened-requires
 good-opened-requires c κs = search needs
 
--- src/checks.rt:115:9
 returns : tie.Need-returns
 returns c =
     let p = c .before .before .before .before .before .pre in
     λ seeds κ. statement-7 _ seeds _ _ κ (sym (c .before .good-opened .ensures _ (p .0 .of)) ∙ not-true _ (c .if1 .taken))
 
--- src/checks.rt:117:9
 is-binary-requires : tie.Need-is-binary-requires
 is-binary-requires c κs = search needs
 
--- src/checks.rt:118:9
 returns-2 : tie.Need-returns-2
 returns-2 c =
     let p = c .before .before .before .before .before .before .before .pre in
     λ seeds κ. statement-8 _ seeds _ _ κ (sym (c .before .before .before .good-opened .ensures _ (p .0 .of)) ∙ not-false _ (c .before .before .if1 .left))
     (sym (c .before .is-binary .ensures _ (sym (p .0 .of .m-is) ∙ sym (p .1))) ∙ not-true _ (c .if2 .taken))
 
--- src/checks.rt:120:9
 is-solution-requires : tie.Need-is-solution-requires
 is-solution-requires c κs = search needs
 
--- src/checks.rt:121:9
 returns-3 : tie.Need-returns-3
 returns-3 c =
     let p = c .before .before .before .before .before .before .before .before .before .pre in
@@ -43,7 +33,6 @@ returns-3 c =
     (sym (c .before .before .before .is-binary .ensures _ (sym (p .0 .of .m-is) ∙ sym (p .1))) ∙ not-false _ (c .before .before .if2 .left))
     (sym (c .before .is-solution .ensures) ∙ not-true _ (c .if3 .taken))
 
--- src/checks.rt:109:1
 returns-4 : tie.Need-returns-4
 returns-4 c =
     let p = c .before .before .before .before .before .before .before .before .before .pre in

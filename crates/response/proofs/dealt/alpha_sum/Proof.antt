@@ -10,11 +10,6 @@ use Rattle.response.proofs.Laws.{alpha-sum-is}
 use borrow.Author.Needs.{needs}
 use Rattle.response.proofs.dealt.alpha_sum.Statement.{statement}
 use Rattle.response.proofs.dealt.alpha_sum.Tie as tie
-use Rattle.response.proofs.dealt.alpha_sum.Reads as reads
-use Rattle.response.proofs.dealt.alpha_sum.Lts as lts
-use Rattle.execution.proofs.shares.column.Reads as column-reads
-use Rattle.numbers.proofs.reduced.Reads as reduced-reads
-use Rattle.numbers.proofs.sub_mod.Reads as sub-mod-reads
 
 mul-column : tie.Need-mul-column
 mul-column c = search needs

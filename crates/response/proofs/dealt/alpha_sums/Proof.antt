@@ -8,9 +8,6 @@ use Rattle.response.specs.Held.{alphaSum}
 use borrow.Author.Needs.{needs}
 use Rattle.response.proofs.dealt.alpha_sums.Statement.{statement}
 use Rattle.response.proofs.dealt.alpha_sums.Tie as tie
-use Rattle.response.proofs.dealt.alpha_sums.Reads as reads
-use Rattle.response.proofs.dealt.alpha_sums.Lts as lts
-use Rattle.response.proofs.dealt.alpha_sum.Reads as alpha-sum-reads
 
 abbrev Inv-loop : tie.InvT-loop
 Inv-loop q m parties work sums₀ k₀ sums k = (k ≤ m) × Filling (length sums₀) sums k (alphaSum q m parties work)

@@ -1,6 +1,4 @@
 -- `dealt::dealt_outputs` meets its contract. Assumes nothing.
-use native.Mathlib.Omega.{arith}
-use lib.ListN.{length}
 use Rattle.lists.specs.Tab.{tab}
 use Rattle.numbers.specs.Inverse.{q-positive}
 use Rattle.protocol.specs.Shares.{o}
@@ -8,10 +6,6 @@ use Rattle.response.proofs.Laws.{fills, held-stated}
 use borrow.Author.Needs.{needs}
 use Rattle.response.proofs.dealt.dealt_outputs.Statement.{statement}
 use Rattle.response.proofs.dealt.dealt_outputs.Tie as tie
-use Rattle.response.proofs.dealt.dealt_outputs.Reads as reads
-use Rattle.response.proofs.dealt.dealt_outputs.Lts as lts
-use Rattle.outputs.proofs.outputs.Reads as outputs-reads
-use Rattle.response.proofs.dealt.alpha_sums.Reads as alpha-sums-reads
 
 slice-aggregate-alpha-sums : tie.Need-slice-aggregate-alpha-sums
 slice-aggregate-alpha-sums c = search needs

@@ -7,9 +7,6 @@ use Rattle.response.specs.Replies.{alphaShare}
 use borrow.Author.Needs.{needs}
 use Rattle.response.proofs.reply.alpha.Statement.{statement}
 use Rattle.response.proofs.reply.alpha.Tie as tie
-use Rattle.response.proofs.reply.alpha.Reads as reads
-use Rattle.response.proofs.reply.alpha.Lts as lts
-use Rattle.numbers.proofs.sub_mod.Reads as sub-mod-reads
 
 -- party i's numbers end within the parties' numbers, of which there are few
 room : (c : tie.After-shared-slice-known)

@@ -5,10 +5,6 @@ use Rattle.response.proofs.Laws.{dealt-reply-is}
 use borrow.Author.Needs.{needs}
 use Rattle.response.proofs.reply.dealt_reply.Statement.{statement}
 use Rattle.response.proofs.reply.dealt_reply.Tie as tie
-use Rattle.response.proofs.reply.dealt_reply.Reads as reads
-use Rattle.response.proofs.reply.dealt_reply.Lts as lts
-use Rattle.execution.proofs.prepare.deal.Reads as deal-reads
-use Rattle.response.proofs.reply.reply.Reads as reply-reads
 
 deal-requires : tie.Need-deal-requires
 deal-requires c κs =

@@ -1,16 +1,12 @@
 -- `reply::output_of` meets its contract. Assumes nothing.
-use native.Mathlib.Omega.{arith}
-use mathlib.Core.Path.{_≡_, sym, _∙_}
-use lib.ListN.{length, replicate}
+use mathlib.Core.Path.{sym}
+use lib.ListN.{replicate}
 use lib.Seq.{length-take-le}
 use Rattle.protocol.specs.Shares.{o}
 use Rattle.response.proofs.Laws.{front-at}
 use borrow.Author.Needs.{needs}
 use Rattle.response.proofs.reply.output_of.Statement.{statement}
 use Rattle.response.proofs.reply.output_of.Tie as tie
-use Rattle.response.proofs.reply.output_of.Reads as reads
-use Rattle.response.proofs.reply.output_of.Lts as lts
-use Rattle.response.proofs.dealt.dealt_outputs.Reads as dealt-outputs-reads
 
 array-borrow-prefix-outs : tie.Need-array-borrow-prefix-outs
 array-borrow-prefix-outs c = search needs

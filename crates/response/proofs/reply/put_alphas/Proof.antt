@@ -1,26 +1,24 @@
--- `reply::put_alphas` meets its contract: the first k numbers are written. Assumes nothing.
-use Prim.Native.Nat.{_+_, _*_, _-_, _≤_}
-use mathlib.Core.Path.{_≡_, refl}
+-- `reply::put_alphas` writes number after number. Invariant: the first k are written. Assumes nothing.
+use Prim.Native.Nat.{_*_, _-_, _≤_}
+use mathlib.Core.Path.{_≡_, refl, ap, _∙_}
 use native.Mathlib.Omega.{arith}
 use lib.ListN.{length}
+use Rattle.lists.specs.Bytes.{le4, nums}
+use Rattle.lists.specs.CatLaws.{le4-length}
+use Rattle.lists.specs.Written.{Built, built-none, built-item, built-at, built-all}
 use Rattle.response.specs.Replies.{alphaShare}
-use Rattle.response.proofs.Laws.{Wrote, wrote-none, wrote-more, wrote-all}
 use borrow.Author.Needs.{needs}
 use Rattle.response.proofs.reply.put_alphas.Statement.{statement}
 use Rattle.response.proofs.reply.put_alphas.Tie as tie
-use Rattle.response.proofs.reply.put_alphas.Reads as reads
-use Rattle.response.proofs.reply.put_alphas.Lts as lts
-use Rattle.bytes4.proofs.put32.Reads as put32-reads
-use Rattle.response.proofs.reply.alpha.Reads as alpha-reads
 
 abbrev Inv-loop : tie.InvT-loop
-Inv-loop q m parties i work out₀ k₀ out k = (k ≤ m) × Wrote (alphaShare q m work i) k out₀ out
+Inv-loop q m parties i work out₀ k₀ out k = (k ≤ m) × (length out ≡ length out₀) × Built (λ j. le4 (alphaShare q m work i j)) k (4 * k) out₀ out
 
 abbrev μ-loop : tie.MeasureT-loop
 μ-loop q m parties i work out₀ k₀ out k = m - k
 
 loop-holds : tie.Need-loop-holds Inv-loop μ-loop
-loop-holds c = (omega arith, wrote-none _ _)
+loop-holds c = (omega arith, refl, built-none _ _)
 
 alpha-requires : tie.Need-alpha-requires Inv-loop μ-loop
 alpha-requires c κs =
@@ -40,7 +38,7 @@ part-put32-start : tie.Need-part-put32-start Inv-loop μ-loop
 part-put32-start c = search needs
 
 part-put32-end : tie.Need-part-put32-end Inv-loop μ-loop
-part-put32-end c = omega (arith, c .before .before .loop .inv .1 .long)
+part-put32-end c = omega (arith, c .before .before .loop .inv .1)
 
 put32-requires : tie.Need-put32-requires Inv-loop μ-loop
 put32-requires c κs = search needs
@@ -53,15 +51,19 @@ loop-less c = search needs
 
 loop-again : tie.Need-loop-again Inv-loop μ-loop
 loop-again c =
-    (omega arith, wrote-more (c .before .before .before .before .before .before .loop .inv .1) (omega arith) (c .before .before .put32 .ensures) (c .before .before .before .before .alpha .ensures))
+    let l = c .before .before .before .before .before .before .loop in
+    let e = c .before .before .put32 .ensures in
+    (omega arith, search needs, built-at (omega arith) (built-item 4 _ (l .inv .2) (e ∙ ap le4 (c .before .before .before .before .alpha .ensures)) (ap length e ∙ le4-length _)))
 
 same-length : tie.Need-same-length Inv-loop μ-loop
 same-length c = search needs
 
 returns : tie.Need-returns Inv-loop μ-loop
+unfolding nums
 returns c =
     let p = c .before .before .before .before .pre in
-    wrote-all (c .before .loop .inv .1) (omega arith) (p .1 .1 .1 .1)
+    let l = c .before .loop in
+    built-all (l .inv .2) (omega arith) (omega (arith, p .1 .1 .1 .1))
 
 pub put-alphas-spec : {M : Type 1} → statement M
 put-alphas-spec =

@@ -1,5 +1,4 @@
 -- `reply::put_last` meets its contract. Assumes nothing.
-use mathlib.Core.Path.{_≡_}
 use Prim.Native.Nat.{_+_, _*_, _-_, _≤_}
 use native.Mathlib.Omega.{arith}
 use Rattle.execution.proofs.Laws.{inside, small}
@@ -7,9 +6,6 @@ use Rattle.response.proofs.Laws.{last-none, last-room, last-some}
 use borrow.Author.Needs.{needs}
 use Rattle.response.proofs.reply.put_last.Statement.{statement}
 use Rattle.response.proofs.reply.put_last.Tie as tie
-use Rattle.response.proofs.reply.put_last.Reads as reads
-use Rattle.response.proofs.reply.put_last.Lts as lts
-use Rattle.response.proofs.reply.put_words.Reads as put-words-reads
 
 -- party N's numbers end within the parties' numbers, of which there are few
 room : (c : tie.Else1)
@@ -45,20 +41,20 @@ mul-to c = search needs
 add-to : tie.Need-add-to
 add-to c = omega (arith, room (c) .0, room (c) .1)
 
-mul-put-words : tie.Need-mul-put-words
-mul-put-words c = omega (arith, room (c) .0, room (c) .1)
+mul-put-numbers : tie.Need-mul-put-numbers
+mul-put-numbers c = omega (arith, room (c) .0, room (c) .1)
 
-sub-put-words : tie.Need-sub-put-words
-sub-put-words c = search needs
+sub-put-numbers : tie.Need-sub-put-numbers
+sub-put-numbers c = search needs
 
-part-put-words-start : tie.Need-part-put-words-start
-part-put-words-start c = search needs
+part-put-numbers-start : tie.Need-part-put-numbers-start
+part-put-numbers-start c = search needs
 
-part-put-words-end : tie.Need-part-put-words-end
-part-put-words-end c = omega (arith, room (c) .0, room (c) .1)
+part-put-numbers-end : tie.Need-part-put-numbers-end
+part-put-numbers-end c = omega (arith, room (c) .0, room (c) .1)
 
-put-words-requires : tie.Need-put-words-requires
-put-words-requires c κs =
+put-numbers-requires : tie.Need-put-numbers-requires
+put-numbers-requires c κs =
     let a = c .before .before .before .before .before .args in
     last-room (a .m) (a .parties) (a .hidden) (a .work .now) _ (c .before .before .if1 .left) (c .before .before .before .before .before .pre .1 .1 .1) (omega (arith, room (c .before .before) .0, c .before .before .before .before .before .pre .1 .1 .0))
 
@@ -68,7 +64,7 @@ same-length c = search needs
 returns-2 : tie.Need-returns-2
 returns-2 c =
     let a = c .before .before .before .before .before .before .before .before .args in
-    last-some (a .m) (a .parties) (a .hidden) (a .work .now) _ (c .before .before .before .before .before .if1 .left) (c .before .before .put-words .ensures)
+    last-some (a .m) (a .parties) (a .hidden) (a .work .now) _ (c .before .before .before .before .before .if1 .left) (c .before .before .put-numbers .ensures)
 
 pub put-last-spec : {M : Type 1} → statement M
 put-last-spec =
@@ -82,10 +78,10 @@ put-last-spec =
     add-from
     mul-to
     add-to
-    mul-put-words
-    sub-put-words
-    part-put-words-start
-    part-put-words-end
-    put-words-requires
+    mul-put-numbers
+    sub-put-numbers
+    part-put-numbers-start
+    part-put-numbers-end
+    put-numbers-requires
     same-length
     returns-2)

@@ -1,6 +1,6 @@
 -- `reply::put_numbers` meets its contract. Assumes nothing.
-use mathlib.Core.Path.{_≡_, sym, _∙_, ap}
-use Prim.Native.Nat.{_+_, _*_, _-_, _≤_}
+use mathlib.Core.Path.{sym, _∙_, ap}
+use Prim.Native.Nat.{_*_}
 use native.Mathlib.Omega.{arith}
 use lib.ListN.{length}
 use lib.Seq.{length-take-le}
@@ -10,11 +10,6 @@ use Rattle.response.proofs.Laws.{three-parts}
 use borrow.Author.Needs.{needs}
 use Rattle.response.proofs.reply.put_numbers.Statement.{statement}
 use Rattle.response.proofs.reply.put_numbers.Tie as tie
-use Rattle.response.proofs.reply.put_numbers.Reads as reads
-use Rattle.response.proofs.reply.put_numbers.Lts as lts
-use Rattle.bytes4.proofs.put32.Reads as put32-reads
-use Rattle.response.proofs.reply.put_alphas.Reads as put-alphas-reads
-use Rattle.response.proofs.reply.put_last.Reads as put-last-reads
 
 mul-mid : tie.Need-mul-mid
 mul-mid c = search needs

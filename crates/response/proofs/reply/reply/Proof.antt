@@ -1,14 +1,10 @@
 -- `reply::reply` meets its contract. Assumes nothing.
-use mathlib.Core.Path.{_≡_, sym, _∙_, ap}
+use mathlib.Core.Path.{_∙_}
 use native.Mathlib.Omega.{arith}
 use Rattle.response.proofs.Laws.{reply-is}
 use borrow.Author.Needs.{needs}
 use Rattle.response.proofs.reply.reply.Statement.{statement}
 use Rattle.response.proofs.reply.reply.Tie as tie
-use Rattle.response.proofs.reply.reply.Reads as reads
-use Rattle.response.proofs.reply.reply.Lts as lts
-use Rattle.response.proofs.reply.output_of.Reads as output-of-reads
-use Rattle.response.proofs.reply.write_reply.Reads as write-reply-reads
 
 output-of-requires : tie.Need-output-of-requires
 output-of-requires c κs =

@@ -1,6 +1,6 @@
 -- `reply::write_reply` meets its contract. Assumes nothing.
-use mathlib.Core.Path.{_≡_, sym, _∙_, ap}
-use Prim.Native.Nat.{_+_, _*_, _-_, _≤_}
+use mathlib.Core.Path.{sym, _∙_, ap}
+use Prim.Native.Nat.{_*_}
 use native.Mathlib.Omega.{arith}
 use lib.ListN.{length}
 use lib.Seq.{length-take-le}
@@ -9,12 +9,6 @@ use Rattle.response.proofs.Laws.{three-parts, third-long}
 use borrow.Author.Needs.{needs}
 use Rattle.response.proofs.reply.write_reply.Statement.{statement}
 use Rattle.response.proofs.reply.write_reply.Tie as tie
-use Rattle.response.proofs.reply.write_reply.Reads as reads
-use Rattle.response.proofs.reply.write_reply.Lts as lts
-use Rattle.response.proofs.reply.put_numbers.Reads as put-numbers-reads
-use Rattle.streams.proofs.copy.Reads as copy-reads
-use Rattle.tree.proofs.open_all_but.Reads as open-all-but-reads
-use Rattle.views.proofs.parties.gamma_at.Reads as gamma-at-reads
 
 mul-seeds : tie.Need-mul-seeds
 mul-seeds c = search needs

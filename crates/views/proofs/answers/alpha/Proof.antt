@@ -1,5 +1,5 @@
 -- `answers::alpha` meets its contract. Assumes nothing.
-use mathlib.Core.Path.{sym, _∙_}
+use mathlib.Core.Path.{_∙_}
 use Prim.Native.Nat.{_+_, _*_, _≤_, _<_}
 use native.Mathlib.Omega.{arith}
 use Rattle.execution.proofs.Laws.{inside, small}

@@ -2,8 +2,7 @@
 use mathlib.Core.Path.{_≡_, refl}
 use Prim.Native.Nat.{_≤_, _-_}
 use native.Mathlib.Omega.{arith}
-use lib.ListN.{take}
-use Rattle.lists.specs.Tab.{tab, Filling, start, more}
+use Rattle.lists.specs.Tab.{Filling, start, more}
 use Rattle.execution.specs.Lists.{alphaAt}
 use Rattle.views.proofs.Laws.{front}
 use borrow.Author.Needs.{needs}

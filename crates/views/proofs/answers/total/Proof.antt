@@ -1,64 +1,19 @@
--- `answers::total` meets its contract. Invariant: the sum of the entries passed, each below 2^32. Assumes nothing.
-use mathlib.Core.Path.{_≡_, refl}
-use Prim.Native.Nat.{_*_, _≤_, _-_}
+-- `answers::total` is the sum of a column whose entries are one apart. Assumes nothing.
+use mathlib.Core.Path.{_≡_, ap, _∙_}
+use Prim.Native.Nat.{ℕ, _+_, _*_}
 use native.Mathlib.Omega.{arith}
 use lib.ListN.{length, getD}
-use Rattle.numbers.specs.Sum.{sum}
-use Rattle.execution.proofs.Laws.{sum-step}
-use borrow.Author.Needs.{needs}
+use Rattle.numbers.specs.Sum.{sum-ext}
 use Rattle.views.proofs.answers.total.Statement.{statement}
 use Rattle.views.proofs.answers.total.Tie as tie
 
-abbrev Inv-loop : tie.InvT-loop
-Inv-loop xs sum₀ i₀ i-end sum i = (i ≤ length xs) × (sum ≡ Rattle.numbers.specs.Sum.sum i (λ k. getD xs k 0)) × (sum ≤ i * 4294967296)
+column-requires : tie.Need-column-requires
+column-requires c κs = ((c .before .pre, omega arith, omega arith), λ i h. omega arith)
 
-abbrev μ-loop : tie.MeasureT-loop
-μ-loop xs sum₀ i₀ i-end sum i = length xs - i
-
-loop-holds : tie.Need-loop-holds Inv-loop μ-loop
-unfolding sum
-loop-holds c = (search needs, refl, omega arith)
-
-mul-wide : tie.Need-mul-wide Inv-loop μ-loop
-mul-wide c = search needs
-
-shared-slice-read-wide : tie.Need-shared-slice-read-wide Inv-loop μ-loop
-shared-slice-read-wide c = search needs
-
-wide-requires : tie.Need-wide-requires Inv-loop μ-loop
-wide-requires c κs = search needs
-
-add-sum : tie.Need-add-sum Inv-loop μ-loop
-add-sum c = omega (arith, c .wide .ensures .1)
-
-add-i : tie.Need-add-i Inv-loop μ-loop
-add-i c = search needs
-
-loop-less : tie.Need-loop-less Inv-loop μ-loop
-loop-less c = search needs
-
-loop-again : tie.Need-loop-again Inv-loop μ-loop
-loop-again c =
-    let l = c .before .before .before .loop in
-    (search needs, sum-step _ _ _ _ (l .inv .1) (c .wide .ensures .0), omega arith)
-
-returns : tie.Need-returns Inv-loop μ-loop
+returns : tie.Need-returns
 returns c =
-    let e : c .before .loop .i ≡ length (c .before .before .before .args .xs .now) = omega arith in
-    rw e at (c .before .loop .inv .1)
+    let xs = c .before .before .args .xs .now in
+    c .column .ensures ∙ sum-ext (length xs) (λ i h. ap (λ (j : ℕ). getD xs j 0) (let e : 1 * i + 0 ≡ i = omega arith in e))
 
 pub total-spec : {M : Type 1} → statement M
-total-spec =
-    tie.close
-    (tie.spec
-    Inv-loop
-    μ-loop
-    loop-holds
-    mul-wide
-    shared-slice-read-wide
-    wide-requires
-    add-sum
-    add-i
-    loop-less
-    loop-again
-    returns)
+total-spec = tie.close (tie.spec column-requires returns)

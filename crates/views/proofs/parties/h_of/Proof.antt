@@ -3,7 +3,6 @@ use mathlib.Core.Path.{_≡_, ap, _∙_}
 use Prim.Native.Nat.{_≤_, _-_}
 use native.Mathlib.Omega.{arith}
 use Rattle.lists.specs.Index.{cat}
-use Rattle.lists.specs.CatLaws.{cat-zero}
 use Rattle.sha_core.specs.Fips180.{sha256}
 use Rattle.sha.specs.State.{Fed, fed-nil}
 use Rattle.views.specs.Seen.{gammaAt}

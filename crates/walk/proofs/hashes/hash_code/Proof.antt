@@ -5,35 +5,25 @@ use Rattle.walk.proofs.Laws.{refuses, passes, none}
 use borrow.Author.Needs.{needs}
 use Rattle.walk.proofs.hashes.hash_code.Statement.{statement}
 use Rattle.walk.proofs.hashes.hash_code.Tie as tie
-use Rattle.walk.proofs.hashes.hash_code.Reads as reads
-use Rattle.walk.proofs.hashes.hash_code.Lts as lts
-use Rattle.bytes4.proofs.same_bytes.Reads as same-bytes-reads
 
--- src/hashes.rt:115:9
 same-bytes-requires : tie.Need-same-bytes-requires
 same-bytes-requires c κs = search needs
 
--- src/hashes.rt:116:9
 returns : tie.Need-returns
 returns c = refuses _ 17 _ (sym (c .before .same-bytes .ensures) ∙ not-true _ (c .if1 .taken))
 
--- src/hashes.rt:118:9
 same-bytes-requires-2 : tie.Need-same-bytes-requires-2
 same-bytes-requires-2 c κs = search needs
 
--- src/hashes.rt:119:9
 returns-2 : tie.Need-returns-2
 returns-2 c = passes _ 17 _ (sym (c .before .before .before .same-bytes .ensures) ∙ not-false _ (c .before .before .if1 .left)) (refuses _ 18 _ (sym (c .before .same-bytes2 .ensures) ∙ not-true _ (c .if2 .taken)))
 
--- src/hashes.rt:121:9
 same-bytes-requires-3 : tie.Need-same-bytes-requires-3
 same-bytes-requires-3 c κs = search needs
 
--- src/hashes.rt:122:9
 returns-3 : tie.Need-returns-3
 returns-3 c = passes _ 17 _ (sym (c .before .before .before .before .before .same-bytes .ensures) ∙ not-false _ (c .before .before .before .before .if1 .left)) (passes _ 18 _ (sym (c .before .before .before .same-bytes2 .ensures) ∙ not-false _ (c .before .before .if2 .left)) (refuses _ 19 _ (sym (c .before .same-bytes3 .ensures) ∙ not-true _ (c .if3 .taken))))
 
--- src/hashes.rt:112:1
 returns-4 : tie.Need-returns-4
 returns-4 c = passes _ 17 _ (sym (c .before .before .before .before .before .same-bytes .ensures) ∙ not-false _ (c .before .before .before .before .if1 .left)) (passes _ 18 _ (sym (c .before .before .before .same-bytes2 .ensures) ∙ not-false _ (c .before .before .if2 .left)) (passes _ 19 _ (sym (c .before .same-bytes3 .ensures) ∙ not-false _ (c .if3 .left)) none))
 

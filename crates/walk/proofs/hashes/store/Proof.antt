@@ -4,110 +4,82 @@ use Rattle.walk.proofs.Stores.{stored-opened, stored-kept}
 use borrow.Author.Needs.{needs}
 use Rattle.walk.proofs.hashes.store.Statement.{statement}
 use Rattle.walk.proofs.hashes.store.Tie as tie
-use Rattle.walk.proofs.hashes.store.Reads as reads
-use Rattle.walk.proofs.hashes.store.Lts as lts
-use Rattle.streams.proofs.copy.Reads as copy-reads
 
--- src/hashes.rt:44:13
 mul-a : tie.Need-mul-a
 mul-a c = search needs
 
--- src/hashes.rt:45:13
 add-b : tie.Need-add-b
 add-b c = search needs
 
--- src/hashes.rt:46:22
 sub-copy : tie.Need-sub-copy
 sub-copy c = search needs
 
--- src/hashes.rt:46:22
 part-copy-start : tie.Need-part-copy-start
 part-copy-start c = search needs
 
--- src/hashes.rt:46:22
 part-copy-end : tie.Need-part-copy-end
 part-copy-end c = search needs
 
--- src/hashes.rt:46:5
 copy-requires : tie.Need-copy-requires
 copy-requires c κs = search needs
 
--- src/hashes.rt:48:9
 same-length : tie.Need-same-length
 same-length c = search needs
 
--- src/hashes.rt:48:9
 returns : tie.Need-returns
 returns c =
     let p = c .before .before .before .before .before .before .before .before .before .pre in
     let a = c .before .before .before .before .before .before .before .before .before .args in
     stored-opened (a .h .now) (a .pi .now) (a .psi .now) (a .lists .now) (c .if1 .taken) (p .1 .0) (p .1 .1 .1 .1 .0) (p .1 .1 .1 .1 .1 .1 .1) (p .1 .1 .0) (c .before .before .before .copy .ensures)
 
--- src/hashes.rt:50:13
 mul-c : tie.Need-mul-c
 mul-c c = search needs
 
--- src/hashes.rt:50:31
 mul-c-2 : tie.Need-mul-c-2
 mul-c-2 c = search needs
 
--- src/hashes.rt:50:13
 add-c : tie.Need-add-c
 add-c c = search needs
 
--- src/hashes.rt:51:13
 add-d : tie.Need-add-d
 add-d c = search needs
 
--- src/hashes.rt:52:23
 sub-copy-2 : tie.Need-sub-copy-2
 sub-copy-2 c = search needs
 
--- src/hashes.rt:52:23
 part-copy-start-2 : tie.Need-part-copy-start-2
 part-copy-start-2 c = search needs
 
--- src/hashes.rt:52:23
 part-copy-end-2 : tie.Need-part-copy-end-2
 part-copy-end-2 c = omega (arith, c .before .before .before .before .before .before .before .before .before .pre .1 .1 .1 .0 (c .if1 .left), c .before .before .before .before .before .before .before .before .before .pre .1 .1 .1 .1 .1 .1 .1)
 
--- src/hashes.rt:52:5
 copy-requires-2 : tie.Need-copy-requires-2
 copy-requires-2 c κs = search needs
 
--- src/hashes.rt:53:17
 mul-f : tie.Need-mul-f
 mul-f c = search needs
 
--- src/hashes.rt:53:13
 add-f : tie.Need-add-f
 add-f c = search needs
 
--- src/hashes.rt:54:13
 add-g : tie.Need-add-g
 add-g c = search needs
 
--- src/hashes.rt:55:24
 sub-copy-3 : tie.Need-sub-copy-3
 sub-copy-3 c = search needs
 
--- src/hashes.rt:55:24
 part-copy-start-3 : tie.Need-part-copy-start-3
 part-copy-start-3 c = search needs
 
--- src/hashes.rt:55:24
 part-copy-end-3 : tie.Need-part-copy-end-3
 part-copy-end-3 c = omega (arith, c .before .before .before .before .before .before .before .before .before .before .before .before .before .pre .1 .1 .1 .0 (c .before .before .before .before .if1 .left), c .before .before .before .before .before .before .before .before .before .before .before .before .before .pre .1 .1 .1 .1 .1 .1 .1)
 
--- src/hashes.rt:55:5
 copy-requires-3 : tie.Need-copy-requires-3
 copy-requires-3 c κs = search needs
 
--- src/hashes.rt:23:1
 same-length-2 : tie.Need-same-length-2
 same-length-2 c = search needs
 
--- src/hashes.rt:23:1
 returns-2 : tie.Need-returns-2
 returns-2 c =
     let p = c .before .before .before .before .before .before .before .before .before .before .before .before .before .before .before .before .before .pre in

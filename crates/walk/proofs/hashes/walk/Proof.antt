@@ -12,11 +12,6 @@ use Rattle.walk.proofs.Laws.{good-E, place-most, place-below}
 use borrow.Author.Needs.{needs}
 use Rattle.walk.proofs.hashes.walk.Statement.{statement}
 use Rattle.walk.proofs.hashes.walk.Tie as tie
-use Rattle.walk.proofs.hashes.walk.Reads as reads
-use Rattle.walk.proofs.hashes.walk.Lts as lts
-use Rattle.forms.proofs.is_opened.Reads as is-opened-reads
-use Rattle.walk.proofs.hashes.store.Reads as store-reads
-use Rattle.walk.proofs.round.round.Reads as round-reads
 
 abbrev Inv-loop : tie.InvT-loop
 Inv-loop q n m parties executions openings depth entries p2 p3 p4 p6 p7 lists₀ work₀ kept rank₀ at₀ e₀ lists work rank at e =
@@ -38,59 +33,47 @@ long-pi c = search needs
 long-psi : (c : tie.After-round Inv-loop μ-loop) → length (c .round .result .psi) ≡ 32
 long-psi c = search needs
 
--- src/hashes.rt:86:16
 sub-kept : tie.Need-sub-kept Inv-loop μ-loop
 sub-kept c = search needs
 
--- src/hashes.rt:89:5
 loop-holds : tie.Need-loop-holds Inv-loop μ-loop
 loop-holds c = (omega arith, (λ K P so. going-first K P _ _ _), refl, refl)
 
--- src/hashes.rt:90:13
 round-requires : tie.Need-round-requires Inv-loop μ-loop
 round-requires c κs =
     let p = c .before .before .before .before .before .before .before .before .before .before .before .pre in
     let inv = c .before .before .loop .inv in
     (p .0, (p .1 .0, ((λ K P so. inv .1 K P so .reached), (c .before .loop-test .taken, (p .1 .1 .0, (p .1 .1 .1 .0, (p .1 .1 .1 .1 .0, omega (arith, inv .3, p .1 .1 .1 .1 .1 .1))))))))
 
--- src/hashes.rt:113:13
 same-length : tie.Need-same-length Inv-loop μ-loop
 same-length c = search needs
 
--- src/hashes.rt:113:13
 same-length-2 : tie.Need-same-length-2 Inv-loop μ-loop
 same-length-2 c = search needs
 
--- src/hashes.rt:113:13
 returns : tie.Need-returns Inv-loop μ-loop
 returns c = (
   (λ K P so. walk-stops K P (c .before .before .before .before .before .before .before .before .before .before .loop .inv .1 K P so) (c .before .before .before .before .before .before .before .round .ensures .0 K P so) (omega (arith, so .executions, c .before .before .before .before .before .before .before .before .before .loop-test .taken)) (c .if1 .taken)),
   c .before .before .before .before .before .before .before .before .before .before .loop .inv .2,
 )
 
--- src/hashes.rt:115:13
 is-opened-requires : tie.Need-is-opened-requires Inv-loop μ-loop
 is-opened-requires c κs = omega (arith, c .before .before .before .before .before .before .before .before .before .loop-test .taken, c .before .before .before .before .before .before .before .before .before .before .before .before .before .before .before .before .before .before .before .pre .0 .M-most)
 
--- src/hashes.rt:120:13
 sub-store : tie.Need-sub-store Inv-loop μ-loop
 sub-store c =
     let s = c .before .before .before .before .before .before .before .before .before .before .before .before .before .before .before .before .before .before .before .before .pre .1 .0 in
     omega (arith, place-most (s .so) (c .before .before .before .before .before .before .before .before .before .before .before .loop .inv .1 (s .key) (s .parts) (s .so) .reached) (c .before .before .before .before .before .before .before .before .before .before .loop-test .taken) .0)
 
--- src/hashes.rt:122:13
 slice-aggregate-store : tie.Need-slice-aggregate-store Inv-loop μ-loop
 slice-aggregate-store c = search needs
 
--- src/hashes.rt:123:13
 slice-aggregate-store-2 : tie.Need-slice-aggregate-store-2 Inv-loop μ-loop
 slice-aggregate-store-2 c = sym (long-pi (c .before .before .before .before .before .before .before .before .before .before))
 
--- src/hashes.rt:124:13
 slice-aggregate-store-3 : tie.Need-slice-aggregate-store-3 Inv-loop μ-loop
 slice-aggregate-store-3 c = sym (long-psi (c .before .before .before .before .before .before .before .before .before .before .before))
 
--- src/hashes.rt:116:9
 store-requires : tie.Need-store-requires Inv-loop μ-loop
 store-requires c κs =
     let p = c .before .before .before .before .before .before .before .before .before .before .before .before .before .before .before .before .before .before .before .before .before .before .before .before .pre in
@@ -111,15 +94,12 @@ store-requires c κs =
       ),
     )
 
--- src/hashes.rt:89:9
 add-e : tie.Need-add-e Inv-loop μ-loop
 add-e c = omega (arith, c .before .before .before .before .before .before .before .before .before .before .before .before .before .before .before .before .before .loop-test .taken, c .before .before .before .before .before .before .before .before .before .before .before .before .before .before .before .before .before .before .before .before .before .before .before .before .before .before .before .pre .0 .M-most)
 
--- src/hashes.rt:89:5
 loop-less : tie.Need-loop-less Inv-loop μ-loop
 loop-less c = omega (arith, c .before .before .before .before .before .before .before .before .before .before .before .before .before .before .before .before .before .loop-test .taken)
 
--- src/hashes.rt:89:5
 loop-again : tie.Need-loop-again Inv-loop μ-loop
 loop-again c =
     let inv = c .before .before .before .before .before .before .before .before .before .before .before .before .before .before .before .before .before .before .loop .inv in
@@ -132,15 +112,12 @@ loop-again c =
       c .before .before .before .before .before .before .before .before .before .before .before .before .before .before .before .round .ensures .1 ∙ inv .3,
     )
 
--- src/hashes.rt:59:1
 same-length-3 : tie.Need-same-length-3 Inv-loop μ-loop
 same-length-3 c = search needs
 
--- src/hashes.rt:59:1
 same-length-4 : tie.Need-same-length-4 Inv-loop μ-loop
 same-length-4 c = search needs
 
--- src/hashes.rt:59:1
 returns-2 : tie.Need-returns-2 Inv-loop μ-loop
 returns-2 c =
     let inv = c .before .loop .inv in (

@@ -4,25 +4,19 @@ use mathlib.Core.List.{[], _∷_}
 use Rattle.lists.specs.Check.{_⇒_}
 use borrow.Author.Tests.{not-true, not-false}
 use Rattle.walk.proofs.Laws.{refuses, passes, none}
-use borrow.Author.Needs.{needs}
 use Rattle.walk.proofs.round.kept_code.Statement.{statement}
 use Rattle.walk.proofs.round.kept_code.Tie as tie
-use Rattle.walk.proofs.round.kept_code.Reads as reads
-use Rattle.walk.proofs.round.kept_code.Lts as lts
 
--- src/round.rt:68:9
 returns : tie.Need-returns
 returns c =
     let a = c .before .args in
     refuses (a .good) 16 (not (a .zero) ⇒ 15 ∷ []) (not-true (a .good) (c .if1 .taken))
 
--- src/round.rt:71:9
 returns-2 : tie.Need-returns-2
 returns-2 c =
     let a = c .before .before .args in
     passes (a .good) 16 (not (a .zero) ⇒ 15 ∷ []) (not-false (a .good) (c .before .if1 .left)) (refuses (a .zero) 15 [] (not-true (a .zero) (c .if2 .taken)))
 
--- src/round.rt:64:1
 returns-3 : tie.Need-returns-3
 returns-3 c =
     let a = c .before .before .args in

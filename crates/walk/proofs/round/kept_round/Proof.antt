@@ -1,20 +1,13 @@
 -- `kept_round` meets its contract. Assumes nothing.
-use mathlib.Core.Path.{_≡_, sym, _∙_, ap}
+use mathlib.Core.Path.{sym, ap}
 use Prim.Native.Nat.{_+_, _*_, _-_, _<_, _≤_}
 use native.Mathlib.Omega.{arith}
-use lib.ListN.{length, replicate, take, drop}
+use lib.ListN.{length, replicate}
 use lib.Seq.{length-take-le}
-use Rattle.walk.proofs.Laws.{rank-most, place-below, place-inside, hidden-least, hid-below, end-inside, replies-least, reply-long, given-is, kept-in, kept-step}
+use Rattle.walk.proofs.Laws.{rank-most, place-below, hidden-least, hid-below, end-inside, replies-least, reply-long, given-is, kept-in, kept-step}
 use borrow.Author.Needs.{needs}
 use Rattle.walk.proofs.round.kept_round.Statement.{statement}
 use Rattle.walk.proofs.round.kept_round.Tie as tie
-use Rattle.walk.proofs.round.kept_round.Reads as reads
-use Rattle.walk.proofs.round.kept_round.Lts as lts
-use Rattle.kept.proofs.kept_execution.Reads as kept-execution-reads
-use Rattle.walk.proofs.round.hidden_party.Reads as hidden-party-reads
-use Rattle.walk.proofs.round.kept_code.Reads as kept-code-reads
-use Rattle.walk.proofs.round.omega_good.Reads as omega-good-reads
-use Rattle.walk.proofs.round.reply_length.Reads as reply-length-reads
 
 most : (c : tie.After-slice-known) → c .before .before .before .before .before .before .before .args .rank ≤ c .before .before .before .before .before .before .before .args .e
 most c = rank-most (c .before .before .before .before .before .before .before .pre .1 .0 .so) (c .before .before .before .before .before .before .before .pre .1 .1 .0 _ _ (c .before .before .before .before .before .before .before .pre .1 .0 .so)) (c .before .before .before .before .before .before .before .pre .1 .1 .1 .0) (c .before .before .before .before .before .before .before .pre .1 .1 .1 .1 .0)
@@ -34,51 +27,39 @@ ends c = end-inside (c .before .before .before .before .before .before .before .
 omegas : (c : tie.After-slice-known) → 16 * c .before .before .before .before .before .before .before .args .openings + 32 * (c .before .before .before .before .before .before .before .args .e - c .before .before .before .before .before .before .before .args .rank) + 32 ≤ length (c .before .before .before .before .before .before .before .args .p3 .now)
 omegas c = omega (arith, low c, c .before .before .before .before .before .before .before .pre .1 .1 .1 .1 .1 .0)
 
--- src/round.rt:146:17
 sub-place : tie.Need-sub-place
 sub-place c = omega (arith, most c)
 
--- src/round.rt:147:9
 hidden-party-requires : tie.Need-hidden-party-requires
-hidden-party-requires c κs = (place-inside (c .before .before .before .before .before .before .before .pre .1 .0 .so) (c .before .before .before .before .before .before .before .pre .1 .1 .0 _ _ (c .before .before .before .before .before .before .before .pre .1 .0 .so)) (c .before .before .before .before .before .before .before .pre .1 .1 .1 .0) (c .before .before .before .before .before .before .before .pre .1 .1 .1 .1 .0), hidden-least (c .before .before .before .before .before .before .before .pre .1 .0 .so) (c .before .before .before .before .before .before .before .pre .1 .1 .0 _ _ (c .before .before .before .before .before .before .before .pre .1 .0 .so)) (c .before .before .before .before .before .before .before .pre .1 .1 .1 .0) (c .before .before .before .before .before .before .before .pre .1 .1 .1 .1 .0))
+hidden-party-requires c κs = hidden-least (c .before .before .before .before .before .before .before .pre .1 .0 .so) (c .before .before .before .before .before .before .before .pre .1 .1 .0 _ _ (c .before .before .before .before .before .before .before .pre .1 .0 .so)) (c .before .before .before .before .before .before .before .pre .1 .1 .1 .0) (c .before .before .before .before .before .before .before .pre .1 .1 .1 .1 .0)
 
--- src/round.rt:148:20
 reply-length-requires : tie.Need-reply-length-requires
 reply-length-requires c κs = (c .before .before .before .before .before .before .before .before .pre .0 .limits .m-most, (c .before .before .before .before .before .before .before .before .pre .0 .deep, party c))
 
--- src/round.rt:148:15
 add-end : tie.Need-add-end
 add-end c = omega (arith, ends c)
 
--- src/round.rt:150:16
 mul-size : tie.Need-mul-size
 mul-size c = search needs
 
--- src/round.rt:159:9
 sub-kept-execution : tie.Need-sub-kept-execution
 sub-kept-execution c = search needs
 
--- src/round.rt:159:9
 part-kept-execution-start : tie.Need-part-kept-execution-start
 part-kept-execution-start c = search needs
 
--- src/round.rt:159:9
 part-kept-execution-end : tie.Need-part-kept-execution-end
 part-kept-execution-end c = ends c
 
--- src/round.rt:160:9
 slice-aggregate-kept-execution : tie.Need-slice-aggregate-kept-execution
 slice-aggregate-kept-execution c = sym (length-take-le 16 (c .before .before .before .before .before .before .before .before .before .before .before .args .p7 .now) (replies-least (c .before .before .before .before .before .before .before .before .before .before .before .pre .1 .0 .so)))
 
--- src/round.rt:163:9
 array-borrow-prefix-leaves : tie.Need-array-borrow-prefix-leaves
 array-borrow-prefix-leaves c = search needs
 
--- src/round.rt:163:9
 slice-aggregate-kept-execution-2 : tie.Need-slice-aggregate-kept-execution-2
 slice-aggregate-kept-execution-2 c = sym (length-take-le _ (replicate 512 0) (few (c .before .before .before .before .before)))
 
--- src/round.rt:151:9
 kept-execution-requires : tie.Need-kept-execution-requires
 kept-execution-requires c κs =
     let p = c .before .before .before .before .before .before .before .before .before .before .before .before .before .pre in
@@ -119,51 +100,39 @@ kept-execution-requires c κs =
       ),
     )
 
--- src/round.rt:166:16
 mul-from : tie.Need-mul-from
 mul-from c = omega (arith, low (c .before .before .before .before .before .before .before .before .before .before), c .before .before .before .before .before .before .before .before .before .before .before .before .before .before .before .before .before .pre .0 .τ-below, c .before .before .before .before .before .before .before .before .before .before .before .before .before .before .before .before .before .pre .0 .M-most)
 
--- src/round.rt:166:32
 mul-from-2 : tie.Need-mul-from-2
 mul-from-2 c = omega (arith, low (c .before .before .before .before .before .before .before .before .before .before), c .before .before .before .before .before .before .before .before .before .before .before .before .before .before .before .before .before .pre .0 .τ-below, c .before .before .before .before .before .before .before .before .before .before .before .before .before .before .before .before .before .pre .0 .M-most)
 
--- src/round.rt:166:16
 add-from : tie.Need-add-from
 add-from c = omega (arith, low (c .before .before .before .before .before .before .before .before .before .before), c .before .before .before .before .before .before .before .before .before .before .before .before .before .before .before .before .before .pre .0 .τ-below, c .before .before .before .before .before .before .before .before .before .before .before .before .before .before .before .before .before .pre .0 .M-most)
 
--- src/round.rt:167:14
 add-to : tie.Need-add-to
 add-to c = omega (arith, low (c .before .before .before .before .before .before .before .before .before .before), c .before .before .before .before .before .before .before .before .before .before .before .before .before .before .before .before .before .pre .0 .τ-below, c .before .before .before .before .before .before .before .before .before .before .before .before .before .before .before .before .before .pre .0 .M-most)
 
--- src/round.rt:169:44
 sub-omega-good : tie.Need-sub-omega-good
 sub-omega-good c = search needs
 
--- src/round.rt:169:44
 part-omega-good-start : tie.Need-part-omega-good-start
 part-omega-good-start c = search needs
 
--- src/round.rt:169:44
 part-omega-good-end : tie.Need-part-omega-good-end
 part-omega-good-end c = omegas (c .before .before .before .before .before .before .before .before .before .before .before)
 
--- src/round.rt:169:59
 slice-aggregate-omega-good : tie.Need-slice-aggregate-omega-good
 slice-aggregate-omega-good c = search needs
 
--- src/round.rt:169:9
 omega-good-requires : tie.Need-omega-good-requires
 omega-good-requires c κs = party (c .before .before .before .before .before .before .before .before .before .before .before .before)
 
--- src/round.rt:170:9
 kept-code-requires : tie.Need-kept-code-requires
 kept-code-requires c κs = search needs
 
--- src/round.rt:115:1
 same-length : tie.Need-same-length
 same-length c = search needs
 
--- src/round.rt:115:1
 returns : tie.Need-returns
 returns c =
     let p = c .before .before .before .before .before .before .before .before .before .before .before .before .before .before .before .before .before .before .before .before .before .before .before .before .before .pre in

@@ -1,28 +1,20 @@
 -- `omega_good` meets its contract. Assumes nothing.
 use mathlib.Core.Path.{sym, _∙_}
 use native.Mathlib.Numerals.{add-one}
-use native.Mathlib.Omega.{arith}
 use borrow.Author.Tests.{eq-eqb, ne-eqb}
 use borrow.Author.Needs.{needs}
 use Rattle.walk.proofs.round.omega_good.Statement.{statement}
 use Rattle.walk.proofs.round.omega_good.Tie as tie
-use Rattle.walk.proofs.round.omega_good.Reads as reads
-use Rattle.walk.proofs.round.omega_good.Lts as lts
-use Rattle.bytes4.proofs.same_bytes.Reads as same-bytes-reads
 
--- src/round.rt:57:8
 add-if1 : tie.Need-add-if1
 add-if1 c = search needs
 
--- src/round.rt:58:9
 returns : tie.Need-returns
 returns c = rw (eq-eqb _ _ (sym (add-one _) ∙ c .if1 .taken))
 
--- src/round.rt:60:5
 same-bytes-requires : tie.Need-same-bytes-requires
 same-bytes-requires c κs = search needs
 
--- src/round.rt:53:1
 returns-2 : tie.Need-returns-2
 returns-2 c = rw (ne-eqb _ _ (λ e. c .before .if1 .left (add-one _ ∙ e))) (c .same-bytes .ensures)
 

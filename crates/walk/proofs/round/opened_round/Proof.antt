@@ -1,16 +1,13 @@
 -- `opened_round` meets its contract. Assumes nothing.
-use mathlib.Core.Path.{_≡_, sym, _∙_, ap}
-use Prim.Native.Nat.{_+_, _*_, _-_, _<_, _≤_}
+use mathlib.Core.Path.{sym}
+use Prim.Native.Nat.{_+_, _*_, _<_, _≤_}
 use native.Mathlib.Omega.{arith}
-use lib.ListN.{length, replicate, take, drop}
+use lib.ListN.{length, replicate}
 use lib.Seq.{length-take-le}
 use Rattle.walk.proofs.Laws.{slice-long, rank-below, opened-step}
 use borrow.Author.Needs.{needs}
 use Rattle.walk.proofs.round.opened_round.Statement.{statement}
 use Rattle.walk.proofs.round.opened_round.Tie as tie
-use Rattle.walk.proofs.round.opened_round.Reads as reads
-use Rattle.walk.proofs.round.opened_round.Lts as lts
-use Rattle.rounds.proofs.opened_hash.Reads as opened-hash-reads
 
 below : (c : tie.After-slice-known) → c .before .before .before .before .before .before .before .args .rank < c .before .before .before .before .before .before .before .args .openings
 below c =
@@ -23,54 +20,42 @@ inside c = omega (arith, below c, c .before .before .before .before .before .bef
 few : (c : tie.After-slice-known) → 16 * c .before .before .before .before .before .before .before .args .parties ≤ 512
 few c = omega (arith, c .before .before .before .before .before .before .before .pre .0 .limits .N-most)
 
--- src/round.rt:106:16
 mul-from : tie.Need-mul-from
 mul-from c = omega (arith, below c, c .before .before .before .before .before .before .before .pre .0 .τ-below, c .before .before .before .before .before .before .before .pre .0 .M-most)
 
--- src/round.rt:107:14
 add-to : tie.Need-add-to
 add-to c = omega (arith, below c, c .before .before .before .before .before .before .before .pre .0 .τ-below, c .before .before .before .before .before .before .before .pre .0 .M-most)
 
--- src/round.rt:109:16
 mul-size : tie.Need-mul-size
 mul-size c = search needs
 
--- src/round.rt:110:58
 sub-opened-hash : tie.Need-sub-opened-hash
 sub-opened-hash c = search needs
 
--- src/round.rt:110:58
 part-opened-hash-start : tie.Need-part-opened-hash-start
 part-opened-hash-start c = search needs
 
--- src/round.rt:110:58
 part-opened-hash-end : tie.Need-part-opened-hash-end
 part-opened-hash-end c = inside c
 
--- src/round.rt:110:73
 array-borrow-prefix-leaves : tie.Need-array-borrow-prefix-leaves
 array-borrow-prefix-leaves c = search needs
 
--- src/round.rt:110:73
 slice-aggregate-opened-hash : tie.Need-slice-aggregate-opened-hash
 slice-aggregate-opened-hash c = sym (length-take-le _ (replicate 512 0) (few (c .before .before)))
 
--- src/round.rt:110:9
 opened-hash-requires : tie.Need-opened-hash-requires
 opened-hash-requires c κs =
     let p = c .before .before .before .before .before .before .before .before .before .before .pre in
     let a = c .before .before .before .before .before .before .before .before .before .before .args in
     (p .0 .limits, (p .0 .full, (omega (arith, p .1 .1 .1 .0, p .0 .M-most), (slice-long (a .p3 .now) (16 * a .rank) 16 (inside (c .before .before .before)), (length-take-le _ (replicate 512 0) (few (c .before .before .before)), p .1 .1 .1 .1 .1 .1)))))
 
--- src/round.rt:111:45
 add-t24 : tie.Need-add-t24
 add-t24 c = omega (arith, below (c .before .before .before .before .before .before .before), c .before .before .before .before .before .before .before .before .before .before .before .before .before .before .pre .0 .τ-below, c .before .before .before .before .before .before .before .before .before .before .before .before .before .before .pre .0 .M-most)
 
--- src/round.rt:77:1
 same-length : tie.Need-same-length
 same-length c = search needs
 
--- src/round.rt:77:1
 returns : tie.Need-returns
 returns c =
     let p = c .before .before .before .before .before .before .before .before .before .before .before .before .before .before .pre in
