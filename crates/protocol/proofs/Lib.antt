@@ -4,6 +4,7 @@ pub mod Demand3Lengths
 pub mod Demand3Links
 pub mod Facts
 pub mod Header
+pub mod HonestPair
 pub mod HonestParts
 pub mod HonestSum
 pub mod KeyFacts

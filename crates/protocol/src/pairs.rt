@@ -8,7 +8,7 @@ ghost use Rattle.protocol.specs.Key.{keyOf, keyChecks};
 ghost use Rattle.protocol.specs.Prover.{checks7};
 ghost use Rattle.protocol.specs.Transcript.{transcript};
 ghost use Rattle.protocol.specs.Judge.{judge};
-ghost use Rattle.protocol.specs.Pair.{Lengths, enough};
+ghost use Rattle.protocol.specs.Pair.{Lengths, enough, pair, secret};
 ghost use Rattle.protocol.specs.Accepts.{Accepts};
 ghost use Rattle.protocol.specs.Honest.{honestParts};
 ghost use Rattle.protocol.specs.Demand3.{Forked, Demand3};
@@ -32,4 +32,14 @@ pub fn honest_transcripts_fork()
         → first (keyChecks (keyOf key) key ++ checks7 (keyOf key) seeds secret E κ L hidden₂) ≡ accepted
         → (hidden₁ ≡ hidden₂ → ⊥)
         → Forked key (transcript (honestParts (keyOf key) seeds secret E κ L hidden₁)) (transcript (honestParts (keyOf key) seeds secret E κ L hidden₂))) ⌝ }
+{}
+
+// Two of the prover's own transcripts of one run, with two hidden lists, give the pair reader finding 2, and the secret is the badge's own.
+pub fn honest_pair_gives_the_secret()
+    ensures { λ _. ⌜ ((key seeds bits E κ L hidden₁ hidden₂ : List ℕ) (l : Lengths)
+        → enough (keyOf key) l ≡ true
+        → first (keyChecks (keyOf key) key ++ checks7 (keyOf key) seeds bits E κ L hidden₁) ≡ accepted
+        → first (keyChecks (keyOf key) key ++ checks7 (keyOf key) seeds bits E κ L hidden₂) ≡ accepted
+        → (hidden₁ ≡ hidden₂ → ⊥)
+        → pair key l (transcript (honestParts (keyOf key) seeds bits E κ L hidden₁)) (transcript (honestParts (keyOf key) seeds bits E κ L hidden₂)) ≡ secret bits) ⌝ }
 {}
