@@ -24,13 +24,16 @@ HEADERS = $(wildcard include/*.h reference/*.h tests/c/*.h)
 LIBBADGE = target/staticlib/libbadge.a
 LIBPRIMITIVES = target/staticlib/libprimitives.a
 
-.PHONY: test tests claims pin reference definitions primitives calls shared-vectors beside program compare campaign weak stack bench lib demo clean
+.PHONY: test tests tidy claims pin reference definitions primitives calls shared-vectors beside program compare campaign weak stack bench lib demo clean
 .SECONDARY:
 
 test:
 	./.ci/run
 
-tests: claims reference definitions primitives calls weak beside program stack demo
+tests: tidy claims reference definitions primitives calls weak beside program stack demo
+
+tidy:
+	python3 tools/check_tidy.py
 
 claims:
 	python3 tools/check_claims.py

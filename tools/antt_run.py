@@ -93,7 +93,7 @@ class P:
         if v == 'true': return ('e', 'True')
         if v == 'false': return ('e', 'False')
         if v == 'zero': return ('e', '0')
-        if re.fullmatch(r'\d+', v): return ('e', v)
+        if re.fullmatch(r'\d+|0x[0-9a-f]+', v): return ('e', v)
         return ('n', v)
     def app(s):
         head = s.atom(); args = []; cur = None

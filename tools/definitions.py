@@ -3,32 +3,57 @@
 
     definitions.py LIBRARY [FILE..]     LIBRARY: the second implementation as a shared object; FILE: vector files, default all
 
-What stays outside the definitions: SHA-256, AES-128 blocks and the inverse of N, which the second implementation gives, and the words
-length, getD, take, drop, replicate and the comparisons of numbers, which are Python's. A key's own tests are asked first, since a list of
-tests is built whole."""
+First SHA-256 and AES-128 by their definitions, on published examples and beside Python's hashlib and the second implementation. Then
+the vectors: those of keys up to WHOLE with SHA-256 and AES-128 by their definitions, the larger ones with both from the second
+implementation, for time. What stays outside the definitions is Python's: length, getD, take, drop, replicate, comparisons of numbers,
+bitAnd, bitOr, bitXor. A key's own tests are asked first, since a list of tests is built whole."""
 import ctypes
 import functools
+import hashlib
+import importlib.util
 import json
 import pathlib
+import struct
 import sys
-
-import antt_run as a
 
 ROOT = pathlib.Path(__file__).resolve().parent.parent
 LIBRARY = ctypes.CDLL(sys.argv[1])
 ENOUGH = 10 ** 9
+WHOLE = 48     # M * N * m of the largest keys whose vectors take nothing from the second implementation
 modulus = None
+whole = False   # whether this vector takes nothing from the second implementation
+
+
+def definitions(*files):
+    """The definitions of the files, in a space of names of their own; a file with names gives only those."""
+    spec = importlib.util.spec_from_file_location("antt_run", ROOT / "tools" / "antt_run.py")
+    space = importlib.util.module_from_spec(spec)
+    spec.loader.exec_module(space)
+    for name, bits in (("bitAnd", int.__and__), ("bitOr", int.__or__), ("bitXor", int.__xor__)):
+        space.builtin(name, 2, bits)
+    space.builtin("replicate", 2, lambda n, x: (x,) * n)
+    space.builtin("sha256", 1, digest)
+    space.builtin("block", 2, block)
+    for path, *names in files:
+        space.load(str(ROOT / "crates" / (path + ".antt")), None, names)
+    return space
 
 
 @functools.lru_cache(None)
 def digest(x):
-    out = ctypes.create_string_buffer(32)
-    LIBRARY.sha256(bytes(x), ctypes.c_size_t(len(x)), out)
-    return tuple(out.raw) if modulus is None else (out.raw[0] % modulus,) + (0,) * 31
+    if whole:
+        out = bytes(sha.call("sha256", x))
+    else:
+        out = ctypes.create_string_buffer(32)
+        LIBRARY.sha256(bytes(x), ctypes.c_size_t(len(x)), out)
+        out = out.raw
+    return tuple(out) if modulus is None else (out[0] % modulus,) + (0,) * 31
 
 
 @functools.lru_cache(None)
 def block(seed, j):
+    if whole:
+        return aes.call("block", seed, j)
     if len(seed) != 16:
         return (0,) * 16
     key, out = ctypes.create_string_buffer(512), ctypes.create_string_buffer(16)
@@ -37,19 +62,14 @@ def block(seed, j):
     return tuple(out.raw)
 
 
-def load():
-    a.builtin("sha256", 1, digest)
-    a.builtin("block", 2, block)
-    a.builtin("inverseOf", 2, lambda q, n: pow(n, -1, q))
-    a.builtin("replicate", 2, lambda n, x: (x,) * n)
-    for path, names in (
-        ("lists/specs/Tab", ["tab"]), ("lists/specs/Index", None), ("lists/specs/Bytes", None), ("lists/specs/Check", None),
-        ("numbers/specs/Mod", ["sub"]), ("numbers/specs/Sum", ["sum"]), ("numbers/specs/Inverse", ["qs", "Ns"]),
-        ("numbers/specs/Output", ["out", "uOf", "vOf"]), ("streams/specs/Streams", ["word64", "number", "draw"]),
-        ("tree/specs/Tree", None), ("protocol/specs/Key", None), ("protocol/specs/Shares", None), ("protocol/specs/Prover", None),
-        ("protocol/specs/Transcript", None), ("protocol/specs/Judge", None), ("protocol/specs/Pair", None),
-    ):
-        a.load(str(ROOT / "crates" / (path + ".antt")), None, names)
+sha = definitions(("sha_core/specs/Fips180",))
+aes = definitions(("lists/specs/Tab", "tab"), ("gf/specs/Field",), ("sbox/specs/Sbox",), ("aes/specs/Fips197",),
+                  ("aes_wide/specs/Wide", "counter"), ("streams/specs/Streams", "block"))
+a = definitions(
+    ("lists/specs/Tab", "tab"), ("lists/specs/Index",), ("lists/specs/Bytes",), ("lists/specs/Check",), ("numbers/specs/Mod", "sub"),
+    ("numbers/specs/Sum", "sum"), ("numbers/specs/Inverse", "qs", "Ns", "inverseOf"), ("numbers/specs/Output", "out", "uOf", "vOf"),
+    ("streams/specs/Streams", "word64", "number", "draw"), ("tree/specs/Tree",), ("protocol/specs/Key",), ("protocol/specs/Shares",),
+    ("protocol/specs/Prover",), ("protocol/specs/Transcript",), ("protocol/specs/Judge",), ("protocol/specs/Pair",))
 
 
 def hexes(text):
@@ -146,10 +166,9 @@ def execution(K, v):
 
 
 def primitives(v):
-    """All but the inverse of N, which stays outside."""
     what = v["what"]
     if what == "inverse":
-        return {}
+        return {"value": a.call("inverseOf", v["q"], v["N"])}
     if what == "stream":
         count = len(v["numbers"])
         return {"numbers": [a.call("draw", v["q"], hexes(v["seed"]), v["first"], count, j) for j in range(count)]}
@@ -173,22 +192,51 @@ def primitives(v):
 KINDS = {"primitives": primitives, "judge": judge, "prover": prover, "lent": lent, "pair": pair, "trace": trace, "weak_pair": pair}
 
 
+def standards():
+    """The differences between the definitions of SHA-256 and AES-128 and NIST's examples, hashlib and the second implementation."""
+    global whole
+    letters = "abcdefghijklmnopqrstu"
+    messages = [b"abc", "".join(letters[i:i + 4] for i in range(14)).encode(), "".join(letters[i:i + 8] for i in range(14)).encode()]
+    published = ["ba7816bf8f01cfea414140de5dae2223b00361a396177a9cb410ff61f20015ad",
+                 "248d6a61d20638b8e5c026930c3e6039a33ce45964ff2167f6ecedd419db06c1",
+                 "cf5b16a778af8380036ce59e7b0492370b249b11e8f07a51afac45037afee9d1"]
+    digests = [(x, bytes.fromhex(d)) for x, d in zip(messages, published)]
+    digests += [(x, hashlib.sha256(x).digest()) for x in (bytes(range(256))[:n] for n in range(0, 256, 5))]
+    ciphers = [("2b7e151628aed2a6abf7158809cf4f3c", "3243f6a8885a308d313198a2e0370734", "3925841d02dc09fbdc118597196a0b32"),
+               ("000102030405060708090a0b0c0d0e0f", "00112233445566778899aabbccddeeff", "69c4e0d86a7b0430d8cdb78070b4c55a")]
+    seeds = [(hashlib.sha256(bytes([j])).digest()[:16], j << j) for j in range(64)]
+    wrong = sum(bytes(sha.call("sha256", tuple(x))) != d for x, d in digests)
+    wrong += sum(aes.call("aes128", hexes(key), hexes(plain)) != hexes(cipher) for key, plain, cipher in ciphers)
+    wrong += aes.call("keyExpansion", hexes(ciphers[0][0]))[-16:] != hexes("d014f9a8c9ee2589e13f0cc8b6630ca6")
+    wrong += sum(aes.call("block", tuple(seed), j) != block(tuple(seed), j) for seed, j in seeds)
+    print(f"definitions: {len(digests)} digests, {len(ciphers) + 1} examples of FIPS 197 and {len(seeds)} blocks run")
+    return wrong
+
+
+def is_small(v):
+    """The vector's key, if it has one, is small, or is refused before anything is hashed."""
+    key = bytes.fromhex(v.get("key", ""))
+    if len(key) < 24:
+        return True
+    m, N, M = struct.unpack_from("<3I", key, 8)
+    return M * N * m <= WHOLE or max(m, N, M) > 128
+
+
 def main():
-    global modulus
-    load()
-    wrong = 0
+    global modulus, whole
+    wrong = standards()
     for file in sys.argv[2:] or [ROOT / "tests" / "vectors" / (k + ".jsonl") for k in KINDS]:
-        kind, run = pathlib.Path(file).stem, 0
+        kind, run, alone = pathlib.Path(file).stem, 0, 0
         for line in open(file):
             v = json.loads(line)
-            modulus = v.get("modulus")
-            a.clear(), digest.cache_clear(), block.cache_clear()
+            modulus, whole = v.get("modulus"), is_small(v)
+            a.clear(), sha.clear(), digest.cache_clear(), block.cache_clear()
             got = KINDS[kind](v)
-            run += 1
+            run, alone = run + 1, alone + whole
             if any(v[x] != got[x] for x in got):
                 wrong += 1
                 print(f"{kind}: {v['id']}: the definitions give {str(got)[:200]}")
-        print(f"definitions: {kind}: {run} vectors run")
+        print(f"definitions: {kind}: {run} vectors run, {alone} with nothing from the second implementation")
     print(f"definitions: {wrong} different")
     failed.append(wrong)
 
