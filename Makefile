@@ -3,7 +3,7 @@
 # make definitions  the definitions of specs/, as they stand there, on the vectors
 # make shared-vectors VECTORS=folder   all vector files of a folder through the library's C calls
 # make compare      the library's C calls beside the second implementation on more than a million inputs
-# make campaign     the same under the AddressSanitizer, SAMPLES=number of keys to start from
+# make campaign     the same under the AddressSanitizer, in two runs, SAMPLES=number of keys that each starts from
 # make weak         the pair reader on collisions: a copy of the library whose hash is cut to a few values
 # make bench        our time over that of C, in one run; make stack: the stack of each call
 # make lib          library and header in dist/
@@ -59,11 +59,18 @@ target/staticlib/lib%.a: $(wildcard crates/*/src/*.rt) crates.txt
 	rt staticlib $* > target-$*.log 2>&1 || { cat target-$*.log; rm -f target-$*.log; exit 1; }
 	rm -f target-$*.log
 
-target/variant/sanitized.a: $(LIBBADGE) tools/variant.py
-	python3 tools/variant.py badge $@ sanitized
+# One rt at a time.
+$(LIBBADGE): | $(LIBPRIMITIVES)
 
-target/variant/weak%.a: $(LIBBADGE) tools/variant.py
-	python3 tools/variant.py badge $@ weak $*
+target/variant/badge.bc: $(LIBBADGE) tools/variant.py
+	mkdir -p $(@D)
+	python3 tools/variant.py badge $@
+
+target/variant/sanitized.a: target/variant/badge.bc
+	python3 tools/variant.py $< $@ sanitized
+
+target/variant/weak%.a: target/variant/badge.bc
+	python3 tools/variant.py $< $@ weak $*
 
 # The second implementation and the library's calls, for tests: each one object for each set of flags.
 
@@ -112,10 +119,14 @@ $(BUILD)/sanitized/compare: reference/compare.c $(BUILD)/sanitized/badge.o $(BUI
 compare: $(BUILD)/O2/compare
 	$< $(SAMPLES)
 
+# Two runs side by side, each with its own seed.
+SEEDS = 1 3
+
 campaign: $(BUILD)/sanitized/compare
 	@for what in read write; do if $< overlong $$what > $(BUILD)/overlong.log 2>&1 || ! grep -q AddressSanitizer $(BUILD)/overlong.log; \
 	then echo "the sanitizer does not see a $$what past the end"; exit 1; fi; done
-	$< $(SAMPLES)
+	@printf '%s\n' $(SEEDS) | xargs -P 2 -I% sh -c '$< $(SAMPLES) % > $(BUILD)/campaign%.log 2>&1 || { cat $(BUILD)/campaign%.log; exit 1; }'
+	@cat $(patsubst %,$(BUILD)/campaign%.log,$(SEEDS))
 
 beside: $(BUILD)/O2/compare
 	$< 200

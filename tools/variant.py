@@ -1,11 +1,12 @@
 #!/usr/bin/env python3
-"""Builds an archive of a crate with its compiled code changed, for tests. Nothing is proved of what it makes.
+"""Builds archives of a crate with its compiled code changed, for tests. Nothing is proved of what it makes.
 
-    variant.py CRATE OUT.a weak MODULUS    SHA-256's digest is cut: its first byte modulo MODULUS, then 31 zero bytes
-    variant.py CRATE OUT.a sanitized       the AddressSanitizer checks each access to memory
+    variant.py CRATE MODULE.bc                    keeps the LLVM module of the crate's static library, and clang's arguments beside it
+    variant.py MODULE.bc OUT.a weak MODULUS       SHA-256's digest is cut: its first byte modulo MODULUS, then 31 zero bytes
+    variant.py MODULE.bc OUT.a sanitized          the AddressSanitizer checks each access to memory
 
-It builds as `rt staticlib CRATE` does, from the libraries that `rt staticlib CRATE` has proved, over a toolchain folder whose clang edits the
-LLVM module before it compiles it. The module has a function of each name crate::module::function."""
+The module comes from a build as `rt staticlib CRATE` does it, from the libraries that `rt staticlib CRATE` has proved, over a toolchain
+folder whose clang keeps it. It has a function of each name crate::module::function."""
 import os
 import pathlib
 import platform
@@ -44,48 +45,56 @@ def sanitized(module):
     return once("attributes #0 = {", "attributes #0 = { sanitize_address", module), ["-fsanitize=address"]
 
 
-def compile_edited(clang, edit, arguments):
-    """In place of clang: the module as text, edited, compiled with the same flags and the edit's own."""
-    source = next(a for a in arguments if a.endswith(".bc"))
-    text = source[:-3] + ".ll"
-    subprocess.run([clang, "-x", "ir", source, "-S", "-emit-llvm", "-Xclang", "-disable-llvm-passes", "-o", text], check=True)
+HOME = pathlib.Path(os.environ.get("RATTLE_HOME") or pathlib.Path(shutil.which("rt")).resolve().parent.parent)
+OWN = HOME / "on" / platform.machine()
+TOOLS = OWN / "toolchain" / "bin"
+
+
+def change(module, out, edit):
+    """The module as text, edited, compiled with the arguments that were kept and the edit's own."""
+    text, thing = out + ".ll", out + ".o"
+    subprocess.run([TOOLS / "clang", "-x", "ir", module, "-S", "-emit-llvm", "-Xclang", "-disable-llvm-passes", "-o", text], check=True)
     edited, flags = {"weak": weak, "sanitized": sanitized}[edit[0]](pathlib.Path(text).read_text(), *edit[1:])
     pathlib.Path(text).write_text(edited)
-    os.execv(clang, [clang] + [text if a == source else a for a in arguments] + flags)
+    arguments = pathlib.Path(module + ".arguments").read_text().splitlines()
+    arguments[arguments.index("-o") + 1] = thing
+    subprocess.run([TOOLS / "clang", *[text if a.endswith(".bc") else a for a in arguments], *flags], check=True)
+    subprocess.run([TOOLS / "llvm-ar", "rcs", out, thing], check=True)
 
 
-def toolchain(real, edit):
+def keeping_toolchain(module):
     """A copy of the toolchain folder, by links, but for its clang."""
-    folder = ROOT / "target" / "variant" / "-".join(edit)
+    folder = pathlib.Path(module + ".toolchain")
     shutil.rmtree(folder, ignore_errors=True)
     (folder / "bin").mkdir(parents=True)
-    (folder / "lib").symlink_to((real / "lib").resolve())
+    (folder / "lib").symlink_to((OWN / "toolchain" / "lib").resolve())
     for tool in ("ld.lld", "llvm-ar"):
-        (folder / "bin" / tool).symlink_to(real / "bin" / tool)
+        (folder / "bin" / tool).symlink_to(TOOLS / tool)
     clang = folder / "bin" / "clang"
-    words = [sys.executable, __file__, "--clang", str(real / "bin" / "clang"), *edit, "--"]
-    clang.write_text("#!/bin/sh\nexec " + " ".join(f"'{w}'" for w in words) + ' "$@"\n')
+    clang.write_text(f"""#!/bin/sh
+printf '%s\\n' "$@" > '{module}.arguments'
+for a in "$@"; do case $a in *.bc) cp "$a" '{module}';; esac; done
+exec '{TOOLS}/clang' "$@"
+""")
     clang.chmod(0o755)
     return folder
 
 
-def build(crate, out, edit):
-    home = pathlib.Path(os.environ.get("RATTLE_HOME") or pathlib.Path(shutil.which("rt")).resolve().parent.parent)
-    own, rlib = home / "on" / platform.machine(), ROOT / "target" / "rlib"
+def keep(crate, module):
+    rlib = ROOT / "target" / "rlib"
     listed = dict(line.split("#")[0].split(":") for line in (ROOT / "crates.txt").read_text().splitlines() if ":" in line.split("#")[0])
-    words = ["--crate-name", crate, f"crates/{crate}/src/lib.rt", "--extern", f"std={own}/rlib/std.rlib"]
+    words = ["--crate-name", crate, f"crates/{crate}/src/lib.rt", "--extern", f"std={OWN}/rlib/std.rlib"]
     for d in listed[crate].split():
-        words += ["--extern", f"{d}={rlib if (rlib / (d + '.rlib')).is_dir() else own / 'rlib'}/{d}.rlib"]
-    words += ["-L", f"dependency={rlib}", "-L", f"dependency={own}/rlib"]
-    words += ["--antt-project", f"{home}/logic/antt-project.json", "--logic-built", f"{own}/logic-built"]
-    words += ["--toolchain", str(toolchain(own / "toolchain", edit)), "--crate-type", "staticlib", "-o", out]
-    done = subprocess.run([own / "bin" / "rattle", "build", *words], cwd=ROOT, capture_output=True, text=True)
+        words += ["--extern", f"{d}={rlib if (rlib / (d + '.rlib')).is_dir() else OWN / 'rlib'}/{d}.rlib"]
+    words += ["-L", f"dependency={rlib}", "-L", f"dependency={OWN}/rlib"]
+    words += ["--antt-project", f"{HOME}/logic/antt-project.json", "--logic-built", f"{OWN}/logic-built"]
+    words += ["--toolchain", str(keeping_toolchain(module)), "--crate-type", "staticlib", "-o", module + ".a"]
+    done = subprocess.run([OWN / "bin" / "rattle", "build", *words], cwd=ROOT, capture_output=True, text=True)
     if done.returncode != 0:
         sys.exit(done.stdout + done.stderr)
 
 
-if sys.argv[1] == "--clang":
-    end = sys.argv.index("--")
-    compile_edited(sys.argv[2], sys.argv[3:end], sys.argv[end + 1:])
+if len(sys.argv) == 3:
+    keep(sys.argv[1], os.path.abspath(sys.argv[2]))
 else:
-    build(sys.argv[1], os.path.abspath(sys.argv[2]), sys.argv[3:])
+    change(os.path.abspath(sys.argv[1]), os.path.abspath(sys.argv[2]), sys.argv[3:])
