@@ -194,3 +194,20 @@ void hash_from_master(struct execution *x, const uint8_t master[16], uint8_t out
         commit_party(x, i);
     hash_parties(x, out);
 }
+
+uint8_t *put_opening(const struct execution *x, const uint8_t master[16], uint32_t hidden, uint8_t *out)
+{
+    uint32_t m = x->key->m, N = x->key->N;
+    out = tree_open(master, N, hidden, out);
+    memcpy(out, x->Gamma[hidden], 32);
+    out += 32;
+    for (uint32_t k = 0; k < m; k++, out += 4)
+        store_number(out, x->alpha[N * k + hidden]);
+    store_number(out, x->o[hidden]);
+    out += 4;
+    if (hidden + 1 == N)
+        return out;
+    store_numbers(out, shares_d(x, N - 1), m);
+    store_numbers(out + 4 * m, shares_s(x, N - 1), m);
+    return out + 8 * m;
+}

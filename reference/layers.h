@@ -129,6 +129,10 @@ void commit_outputs(const struct execution *x, const uint8_t w[16], uint8_t out[
 /* h(e) from a master seed. */
 void hash_from_master(struct execution *x, const uint8_t master[16], uint8_t out[32]);
 
+/* What part 7 holds of the execution: opened seeds, Gamma, alpha and o of the hidden party, and party N's d and s where it is open;
+ * answers its end. */
+uint8_t *put_opening(const struct execution *x, const uint8_t master[16], uint32_t hidden, uint8_t *out);
+
 /* A transcript as the judge reads it. */
 
 struct opening {

@@ -149,24 +149,11 @@ static void write_5(struct message *g, uint8_t *out)
     sha256_end(&c, out);
 }
 
-/* Opened seeds, Gamma, alpha and o of the hidden party, and party N's d and s where it is open. */
+/* What part 7 holds of an execution; answers its end. */
 static uint8_t *write_opening(struct message *g, uint32_t e, uint32_t hidden, uint8_t *out)
 {
-    struct execution *x = &g->x;
-    uint32_t m = g->key.m, N = g->key.N;
-    out = tree_open(g->in.seeds.at + 16 * e, N, hidden, out);
-    commit_party(x, hidden);
-    memcpy(out, x->Gamma[hidden], 32);
-    out += 32;
-    for (uint32_t k = 0; k < m; k++, out += 4)
-        store_number(out, x->alpha[N * k + hidden]);
-    store_number(out, x->o[hidden]);
-    out += 4;
-    if (hidden + 1 == N)
-        return out;
-    store_numbers(out, shares_d(x, N - 1), m);
-    store_numbers(out + 4 * m, shares_s(x, N - 1), m);
-    return out + 8 * m;
+    commit_party(&g->x, hidden);
+    return put_opening(&g->x, g->in.seeds.at + 16 * e, hidden, out);
 }
 
 /* K, then the openings */

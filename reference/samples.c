@@ -184,24 +184,6 @@ static void cheat_hidden(struct execution *x, uint32_t hidden, uint64_t *state)
     x->o[hidden] = minus(x->o[hidden], sum_of_outputs(x), q);
 }
 
-/* What part 7 holds for the execution; answers its end. */
-static uint8_t *put_opening(struct execution *x, const uint8_t *master, uint32_t hidden, uint8_t *out)
-{
-    uint32_t m = x->key->m, N = x->key->N;
-    out = tree_open(master, N, hidden, out);
-    memcpy(out, x->Gamma[hidden], 32);
-    out += 32;
-    for (uint32_t k = 0; k < m; k++, out += 4)
-        store_number(out, x->alpha[N * k + hidden]);
-    store_number(out, x->o[hidden]);
-    out += 4;
-    if (hidden + 1 == N)
-        return out;
-    store_numbers(out, shares_d(x, N - 1), m);
-    store_numbers(out + 4 * m, shares_s(x, N - 1), m);
-    return out + 8 * m;
-}
-
 /* Leaves, shares and coefficients of an execution by its master seed. */
 static void deal(struct execution *x, const struct sample *s, uint32_t e)
 {

@@ -19,7 +19,7 @@ import sys
 ROOT = pathlib.Path(__file__).resolve().parent.parent
 LIBRARY = ctypes.CDLL(sys.argv[1])
 ENOUGH = 10 ** 9
-WHOLE = 48     # M * N * m of the largest keys whose vectors take nothing from the second implementation
+WHOLE = 48      # M * N * m of the largest keys whose vectors take nothing from the second implementation
 modulus = None
 whole = False   # whether this vector takes nothing from the second implementation
 
@@ -194,7 +194,6 @@ KINDS = {"primitives": primitives, "judge": judge, "prover": prover, "lent": len
 
 def standards():
     """The differences between the definitions of SHA-256 and AES-128 and NIST's examples, hashlib and the second implementation."""
-    global whole
     letters = "abcdefghijklmnopqrstu"
     messages = [b"abc", "".join(letters[i:i + 4] for i in range(14)).encode(), "".join(letters[i:i + 8] for i in range(14)).encode()]
     published = ["ba7816bf8f01cfea414140de5dae2223b00361a396177a9cb410ff61f20015ad",

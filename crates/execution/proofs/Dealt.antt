@@ -149,7 +149,7 @@ shown-by K v leaves work seeds drawn ds ss =
 -- ---- what a prover deals
 module _ (K : Key) (e : ℕ) (master : List ℕ) (z : ℕ → ℕ) (leaves : List ℕ) (long : length master ≡ 16) (full : 2 ^ depth K ≡ K .N)
     (made : leaves ≡ cat (2 ^ depth K) (leaf (depth K) master)) where
-  dealt-seeds : Seeded K (dealt K e master z) leaves
+  pub dealt-seeds : Seeded K (dealt K e master z) leaves
   unfolding dealt
   dealt-seeds =
       record {

@@ -10,13 +10,22 @@ use lib.Dec.{eqb, ltb}
 use lib.ListN.{getD}
 use Rattle.lists.specs.Index.{pick, part, every}
 use Rattle.lists.specs.Bytes.{num}
-use Rattle.lists.specs.TestLaws.{every-at}
+use Rattle.lists.specs.TestLaws.{every-at, pick-true}
 use Rattle.protocol.specs.Key.{Key, depth}
 use Rattle.protocol.specs.Shares.{View, share, d, s}
 use Rattle.protocol.specs.Transcript.{Parts}
 use Rattle.protocol.specs.Judge.{hidden, givenCount, replyAt, given, keptView}
 use Rattle.execution.specs.Shown.{Sized, Holds, Shown, placeOf}
 use Rattle.execution.specs.Prepared.{Given, lastCount, givenOf}
+
+-- Party N's d and s are the view's own.
+pub d-last : (K : Key) (v : View) (k i : ℕ) → suc i ≡ K .N → d K v k i ≡ v .dN k
+unfolding d
+d-last K v k i e = pick-true (eqb (suc i) (K .N)) _ _ (eq-eqb (suc i) (K .N) e)
+
+pub s-last : (K : Key) (v : View) (k i : ℕ) → suc i ≡ K .N → s K v k i ≡ v .sN k
+unfolding s
+s-last K v k i e = pick-true (eqb (suc i) (K .N)) _ _ (eq-eqb (suc i) (K .N) e)
 
 -- what holds of a key's own numbers holds of those that equal them
 pub from-key : {q m N : ℕ} {K : Key} → Sized q m N K → (P : ℕ → ℕ → ℕ → Type 0) → P (K .q) (K .m) (K .N) → P q m N

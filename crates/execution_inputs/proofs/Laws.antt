@@ -10,11 +10,11 @@ use native.Mathlib.Omega.{arith}
 use native.Mathlib.Decide.{ℕ-discrete}
 use borrow.Author.Tests.{eq-eqb, ne-eqb}
 use lib.Dec.{eqb}
-use lib.ListN.{length, getD, take, drop, length-append, length-drop, drop-of-length-le}
+use lib.ListN.{length, take, drop, length-append, length-drop, drop-of-length-le}
 use Rattle.lists.specs.Index.{cat, pick, part}
 use Rattle.lists.specs.Tab.{tab}
-use Rattle.lists.specs.Bytes.{words, nums, num}
-use Rattle.lists.specs.CatLaws.{cat-more, cat-length, cat-part, part-length, part-first, part-right, part-mid, part-last, nums-ext, words-length}
+use Rattle.lists.specs.Bytes.{words, num}
+use Rattle.lists.specs.CatLaws.{cat-more, cat-length, cat-part, part-length, part-first, part-right, part-mid, part-last, words-length}
 use Rattle.numbers.specs.Sum.{sum}
 use Rattle.sha_core.specs.Digest.{sha256-length}
 use Rattle.streams.specs.Streams.{block, block-length}
@@ -27,7 +27,7 @@ use Rattle.execution.specs.Shown.{Shown}
 use Rattle.execution.specs.Lists.{alphaAt}
 use Rattle.execution.proofs.Laws.{inside}
 use Rattle.views.specs.Seen.{gammaOpen, gammaAt, ForH, ForΩ}
-use Rattle.views.proofs.Laws.{words-part, h-is, omega-is, sums-is, psi-is}
+use Rattle.views.proofs.Laws.{d-part, h-is, omega-is, sums-is, psi-is}
 use Rattle.outputs.specs.Stated.{Stated}
 use Rattle.kept.specs.Kept.{Shared, KeptIn}
 use Rattle.kept.proofs.Laws.{to-end, kept-for-h, kept-for-Ω, shared-for-Π, shared-stated}
@@ -70,26 +70,11 @@ stated {m} so sums before is =
 
 -- Γ(i)'s input of an open party
 module _ {m N hid e : ℕ} {given leaves work : List ℕ} {K : Key} {v : View} (so : ForH m N hid e given leaves work K v) (long : 3 * m * N ≤ length work) where
-  d-words : (i : ℕ) → i < N → (i ≡ hid → ⊥) → suc i ≡ N → words (part work (3 * m * i + m) m) ≡ nums m (v .dN)
-  d-words i h other last =
-      words-part work (3 * m * i + m) m (omega (arith, inside m N i h))
-      ∙ nums-ext m
-      (λ k y.
-      let z : N - 1 ≡ i = omega arith in
-      let w : 3 * m * i + m + k ≡ 3 * m * i + (m + k) = omega arith in
-      ap (λ n. getD work n 0) w ∙ sym (rw z at (so .dN (λ y. other (omega arith)) k y)))
-
-  d-part : (i : ℕ) → i < N → (i ≡ hid → ⊥) → Dec (suc i ≡ N)
-      → words (pick (eqb (suc i) N) (part work (3 * m * i + m) m) []) ≡ pick (eqb (suc i) N) (nums m (v .dN)) []
-  unfolding words
-  d-part i h other (yes z) = rw (eq-eqb (suc i) N z) (d-words i h other z)
-  d-part i h other (no z) = rw (ne-eqb (suc i) N z)
-
   pub gamma-in : (i : ℕ) → i < N → (i ≡ hid → ⊥) → gammaIn m N e leaves work i ≡ Γin K v i
   unfolding gammaIn Γin
   gamma-in i h other =
       let seed : part leaves (16 * i) 16 ≡ v .seed i = so .seeds .at i (rw (so .parties) h) (λ y. other (y ∙ so .hidden)) in
-      rw (so .ex, so .parties, so .columns, add-one e, add-one i, seed, d-part i h other (ℕ-discrete (suc i) N))
+      rw (so .ex, so .parties, so .columns, add-one e, add-one i, seed, d-part so long i h other (ℕ-discrete (suc i) N))
 
 -- ---- lengths
 pub gamma-length : (m N e : ℕ) (leaves work : List ℕ) → length leaves ≡ 16 * N → 3 * m * N ≤ length work

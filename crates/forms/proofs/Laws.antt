@@ -3,7 +3,6 @@ use Prim.Native.Nat.{ℕ, suc, _+_, _*_, _%_, _≤_, _<_}
 use mathlib.Core.Path.{_≡_, sym, ap, _∙_, subst}
 use mathlib.Core.Bool.{Bool, true, false}
 use mathlib.Core.List.{List, _∷_}
-use native.Mathlib.Nat.{mul-le-mul}
 use native.Mathlib.Numerals.{add-one}
 use native.Mathlib.Omega.{arith}
 use lib.Dec.{ltb, leb, eqb}
@@ -82,10 +81,6 @@ most-of x a b e h = sym (h ∙ ap (λ (t : ℕ). every (length x) (λ j. leb (ge
 pub binary-of : (K : Key) (x : List ℕ) {r : Bool} → K .m ≡ length x → r ≡ every (length x) (λ j. leb (getD x j 0) 1) → r ≡ binary K (λ j. getD x j 0)
 unfolding binary
 binary-of K x e h = rw e h
-
--- Row l of m entries lies within n rows.
-pub row-fits : (l n m : ℕ) → l < n → l * m + m ≤ n * m
-row-fits l n m h = omega (arith, mul-le-mul {n₁ = suc l} {m₁ = m} {n₂ = n} {m₂ = m} h (omega arith))
 
 -- A·s = t row by row, as the key's bytes x give A and t.
 abbrev pub solvesRow : List ℕ → List ℕ → ℕ → Bool

@@ -12,12 +12,11 @@ use Rattle.protocol.specs.Key.{Key, keptCount}
 use Rattle.protocol.specs.Transcript.{Parts}
 use Rattle.protocol.specs.Judge.{hπAt, formChecks, hashChecks, partsChecks}
 use Rattle.sha_core.specs.Fips180.{sha256}
-use Rattle.refusals.specs.Number.{numberOf, none-applies}
+use Rattle.refusals.specs.Number.{numberOf, none-applies, refused-is}
 use Rattle.key.specs.declared.Numbers.{Numbers}
 use Rattle.key.specs.Numbers.{Limits, Depth, keyWith}
 use Rattle.walk.specs.Lists.{hπFrom, hψFrom, listsSize}
 use Rattle.walk.specs.Walk.{partsFrom, Within, Standing, Stood, Walked, checksAt, hashTests}
-use Rattle.walk.proofs.Going.{refused-of}
 
 module _ (K : Key) (P : Parts) where
   pub form-clean : numberOf (first (formChecks K P)) ≡ 0 → first (formChecks K P) ≡ accepted
@@ -30,7 +29,7 @@ module _ (K : Key) (P : Parts) where
       sym
       (ap numberOf
       (first-stops (formChecks K P ++ cat (K .M) (checksAt K P)) (hashChecks K P)
-      (first-stops (formChecks K P) (cat (K .M) (checksAt K P)) (refused-of (first (formChecks K P)) e ne))))
+      (first-stops (formChecks K P) (cat (K .M) (checksAt K P)) (refused-is (first (formChecks K P)) e ne))))
 
   module _ (good : first (formChecks K P) ≡ accepted) {code : ℕ} {lists : List ℕ} (w : Walked K P code lists) where
     pub walk-refused : (code ≡ 0 → ⊥) → code ≡ numberOf (first (partsChecks K P))
@@ -39,7 +38,7 @@ module _ (K : Key) (P : Parts) where
         sym
         (ap numberOf
         (first-stops (formChecks K P ++ cat (K .M) (checksAt K P)) (hashChecks K P)
-        (first-more (formChecks K P) (cat (K .M) (checksAt K P)) good ∙ refused-of (first (cat (K .M) (checksAt K P))) (w .code-is) ne)))
+        (first-more (formChecks K P) (cat (K .M) (checksAt K P)) good ∙ refused-is (first (cat (K .M) (checksAt K P))) (w .code-is) ne)))
 
     given-is : (a : ℕ) → a ≡ 16 * K .τ + 32 * keptCount K → take (a + 32 - a) (drop a (P .p3)) ≡ hπAt K P
     unfolding hπAt

@@ -16,13 +16,12 @@ use Rattle.lists.specs.TestLaws.{not-of-true, not-of-false, first-hit, first-mi
 use Rattle.protocol.specs.Key.{Key, entries, keyOf, keyChecks}
 use Rattle.protocol.specs.Transcript.{Parts, partAt, partsOf, sizes, goodHeader}
 use Rattle.protocol.specs.Judge.{partsChecks, runChecks, lentEnough, judgeLent}
-use Rattle.refusals.specs.Number.{numberOf}
+use Rattle.refusals.specs.Number.{numberOf, refused-is}
 use Rattle.key.specs.declared.Numbers.{Numbers}
 use Rattle.key.specs.Numbers.{Read, keyWith}
 use Rattle.key.specs.KeyLaws.{entries-of, key-is}
 use Rattle.transcript.specs.Layout.{startOf, start-next, start-within, part-is, last-is, part-long}
 use Rattle.walk.specs.Walk.{partsFrom}
-use Rattle.walk.proofs.Going.{refused-of}
 
 -- the lengths of parts 3 and 4
 pub third-size : (K : Key) → getD (sizes K) 2 0 ≡ 16 * K .τ + 32 * (K .M - K .τ) + 32
@@ -82,7 +81,7 @@ module _ (K : Key) (x : List ℕ) where
 module _ (key x : List ℕ) (work entry : ℕ) where
   pub key-refused : {c : ℕ} → c ≡ numberOf (first (keyChecks (keyOf key) key)) → (c ≡ 0 → ⊥) → c ≡ numberOf (judgeLent key work entry x)
   unfolding judgeLent
-  key-refused {c} e ne = sym (ap numberOf (first-stops (keyChecks (keyOf key) key) _ (refused-of (first (keyChecks (keyOf key) key)) e ne)))
+  key-refused {c} e ne = sym (ap numberOf (first-stops (keyChecks (keyOf key) key) _ (refused-is (first (keyChecks (keyOf key) key)) e ne)))
 
   module _ (good : first (keyChecks (keyOf key) key) ≡ accepted) where
     pub room-refused : lentEnough (keyOf key) work entry ≡ false → 11 ≡ numberOf (judgeLent key work entry x)

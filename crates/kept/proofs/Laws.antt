@@ -5,34 +5,25 @@ use mathlib.Core.Path.{_≡_, refl, sym, _∙_, ap, ap₂, subst}
 use mathlib.Core.List.{List, _++_, append-nil}
 use native.Mathlib.Omega.{arith}
 use mathlib.Core.Bool.{Bool}
-use borrow.Author.Tests.{eq-eqb}
 use lib.Dec.{eqb}
 use lib.ListN.{length, getD, take, drop, length-drop, drop-of-length-le, List·getD-append}
 use lib.Seq.{take-all}
 use Rattle.lists.specs.Tab.{tab, tab-at, tab-length}
 use Rattle.lists.specs.Index.{part}
 use Rattle.lists.specs.Bytes.{num, words}
-use Rattle.lists.specs.TestLaws.{pick-true}
 use Rattle.numbers.specs.Sum.{sum}
 use Rattle.sha_core.specs.Fips180.{sha256}
 use Rattle.streams.specs.Streams.{block}
 use Rattle.protocol.specs.Key.{Key}
-use Rattle.protocol.specs.Shares.{View, input, b, d, s, αsum, o, hin, Ωin, Πin}
+use Rattle.protocol.specs.Shares.{View, input, b, s, αsum, o, hin, Ωin, Πin}
 use Rattle.protocol.specs.Transcript.{Parts}
 use Rattle.protocol.specs.Judge.{hidden, given, κ, keptView}
+use Rattle.execution.proofs.Held.{d-last, s-last}
 use Rattle.execution.specs.Shown.{Holds, Shown, placeOf}
 use Rattle.views.specs.Seen.{ForH, ForΩ, ForΠ}
 use Rattle.views.proofs.Laws.{psi-is, outputs-sum}
 use Rattle.outputs.specs.Stated.{Stated}
 use Rattle.kept.specs.Kept.{Shared, Answered, KeptIn, Evaluates}
-
-d-last : (K : Key) (v : View) (k i : ℕ) → suc i ≡ K .N → d K v k i ≡ v .dN k
-unfolding d
-d-last K v k i e = pick-true (eqb (suc i) (K .N)) _ _ (eq-eqb (suc i) (K .N) e)
-
-s-last : (K : Key) (v : View) (k i : ℕ) → suc i ≡ K .N → s K v k i ≡ v .sN k
-unfolding s
-s-last K v k i e = pick-true (eqb (suc i) (K .N)) _ _ (eq-eqb (suc i) (K .N) e)
 
 -- the part of a list from a place to its end
 pub to-end : (x : List ℕ) (a : ℕ) → take (length x - a) (drop a x) ≡ drop a x

@@ -100,3 +100,7 @@ key-is x k r = λ i. record { q = r .of .q-is i; n = r .of .n-is i; m = r .of .m
 pub depth-of : (d p : ℕ) → d ≡ count 5 (λ j. leb (2 ^ suc j) p) → (K : Key) → K .N ≡ p → d ≡ depth K
 unfolding depth
 depth-of d p h K e = rw e h
+
+-- Row l of n rows of m entries ends within them.
+pub row-fits : (l n m : ℕ) → l < n → l * m + m ≤ n * m
+row-fits l n m h = omega (arith, mul-le-mul {n₁ = suc l} {m₁ = m} {n₂ = n} {m₂ = m} h (omega arith))

@@ -1,5 +1,5 @@
--- Lists that are written in place: entry by entry, item after item, and part after part. In a law the list on the left is what a loan
--- leaves: the lent part `take`n out of it, written, and put back.
+-- Lists that are written in place: entry by entry, item after item, and part after part. What a loan of a part leaves is what stood
+-- before the part, the part as it was written, and what stood after it.
 -- Assumes nothing.
 use Prim.Native.Nat.{ℕ, zero, suc, _+_, _-_, _≤_, _<_}
 use mathlib.Core.Path.{_≡_, refl, sym, _∙_, ap, ap₂}

@@ -14,13 +14,12 @@ use Rattle.numbers.specs.Mod.{sub, sub-lt}
 use Rattle.numbers.specs.Sum.{sum-ext}
 use Rattle.streams.specs.Streams.{number, word64, block, number-lt}
 use Rattle.tree.specs.Tree.{leaf}
-use Rattle.tree.specs.TreeLaws.{leaf-length}
 use Rattle.protocol.specs.Key.{Key, depth}
 use Rattle.protocol.specs.Shares.{isN, share, b, s, dealt}
-use Rattle.execution.specs.Shown.{Seeded, placeOf}
+use Rattle.execution.specs.Shown.{placeOf}
 use Rattle.execution.specs.Lists.{Put, lastS, Reduced}
 use Rattle.execution.proofs.Laws.{inside}
-use Rattle.execution.proofs.Dealt.{with-key, share-number, before-last, seed-at}
+use Rattle.execution.proofs.Dealt.{with-key, share-number, before-last, dealt-seeds}
 use Rattle.masks.specs.Masks.{Row, Masks, Carried, Masked}
 
 -- number j from m blocks later on is number 2m + j
@@ -145,20 +144,11 @@ dealt-masks-reduced secret pos masks put = masks-reduced masks put pos (λ k. su
 -- ---- what a prover deals
 module _ (K : Key) (e : ℕ) (master : List ℕ) (z : ℕ → ℕ) (leaves : List ℕ) (long : length master ≡ 16) (full : 2 ^ depth K ≡ K .N)
     (made : leaves ≡ cat (2 ^ depth K) (leaf (depth K) master)) where
-  dealt-seeds : Seeded K (dealt K e master z) leaves
-  unfolding dealt
-  dealt-seeds =
-      record {
-        at = λ i h other.
-            ap (λ x. part x (16 * i) 16) made
-            ∙ seed-at (2 ^ depth K) (leaf (depth K) master) (λ j k. leaf-length (depth K) master j long) i (subst (λ (x : ℕ). i < x) (sym full) h);
-      }
-
   -- a number of a seed in the list is a share
   share-at : (i j : ℕ) → i < K .N → number (K .q) (part leaves (16 * i) 16) 2 j ≡ share K (dealt K e master z .seed i) i j
   unfolding dealt
   share-at i j h =
-      ap (λ x. number (K .q) x 2 j) (dealt-seeds .at i h (λ w. let no : ⊥ = omega arith in no)) ∙ sym (share-number K (dealt K e master z .seed i) i j)
+      ap (λ x. number (K .q) x 2 j) (dealt-seeds K e master z leaves long full made .at i h (λ w. let no : ⊥ = omega arith in no)) ∙ sym (share-number K (dealt K e master z .seed i) i j)
 
   dealt-s : (work : List ℕ) (k : ℕ) → k < K .m → Masks (K .q) (K .m) (K .N) leaves work (K .N)
       → lastS (K .q) (K .m) (K .N) work (z k) k ≡ dealt K e master z .sN k
@@ -173,7 +163,7 @@ module _ (K : Key) (e : ℕ) (master : List ℕ) (z : ℕ → ℕ) (leaves : Lis
   unfolding b s
   dealt-carried one two masks put =
       record {
-        seeds = dealt-seeds;
+        seeds = dealt-seeds K e master z leaves long full made;
         bs = record {
           at = λ j i k h other.
               ap (λ x. getD two (placeOf (K .m) i x) 0) (zero-add j) ∙ (b-after masks put i j h k ∙ share-at i j h);

@@ -5,18 +5,16 @@ use mathlib.Core.Path.{_≡_, refl, sym, _∙_, ap, ap₂, subst}
 use mathlib.Core.Bool.{true, false}
 use mathlib.Core.List.{List, [], _++_, append-assoc}
 use native.Mathlib.Omega.{arith}
-use lib.Dec.{eqb}
 use lib.ListN.{length, getD, take, drop}
-use borrow.Author.Tests.{eq-eqb}
 use Rattle.lists.specs.Written.{both-parts, built-all, built-more, built-none, puts-none, puts-some}
 use Rattle.lists.specs.Index.{cat, pick, part}
-use Rattle.lists.specs.TestLaws.{pick-true}
 use Rattle.sha.specs.State.{Stands, Fed}
 use Rattle.sha.specs.declared.Sha.{Sha}
 use Rattle.sha_core.specs.Fips180.{sha256}
 use Rattle.protocol.specs.Key.{Key, depth}
 use Rattle.protocol.specs.Shares.{View, dealt, Ωin, Πin, b, s, input}
 use Rattle.protocol.specs.Prover.{proverView, kept, hπin, sized, opened, message3}
+use Rattle.execution.proofs.Held.{s-last}
 use Rattle.execution.specs.Shown.{Sized, Holds, placeOf}
 use Rattle.execution.specs.Begun.{Begun}
 use Rattle.masks.specs.Masks.{Carried, Masked}
@@ -24,10 +22,6 @@ use Rattle.views.specs.Seen.{ForΩ, ForΠ}
 use Rattle.message_3.specs.Parts.{OmegaOf, PiOf, KeptPuts, KeptBuilt, KeptAll, KeptPart, Rest}
 
 -- ---- one execution that is dealt
-s-last : (K : Key) (v : View) (k i : ℕ) → suc i ≡ K .N → s K v k i ≡ v .sN k
-unfolding s
-s-last K v k i e = pick-true (eqb (suc i) (K .N)) _ _ (eq-eqb (suc i) (K .N) e)
-
 module _ {q m N e : ℕ} {leaves work : List ℕ} (K : Key) (v : View) (sized : Sized q m N K) (some : 1 ≤ N) (ex : v .ex ≡ e) (whole : v .hid ≡ K .N) (S : Carried K v leaves work) where
   last : suc (K .N - 1) ≡ K .N
   last = omega (arith, sized .parties)

@@ -46,7 +46,7 @@ inverse-minus {q} {n} hq hn e = go (rw (ne-eqb (q % n) 1 e, inverseOf))
 pub product-room : {a b : ℕ} → a < 4294967296 → b < 4294967296 → a * b ≤ 18446744065119617025
 product-room {a} {b} h k = omega (arith, mul-le-mul {n₁ = a} {m₁ = b} {n₂ = 4294967295} {m₂ = 4294967295} (omega arith) (omega arith))
 
--- ---- loops whose turn is one of the functions: acc is sum i f % q, or (x + sum i f) % q
+-- ---- loops whose turn is one of the functions: acc is sum i f % q
 pub residue-first : (f : ℕ → ℕ) {q : ℕ} → 0 < q → Residue q (sum 0 f % q) 0
 residue-first f {q} h = record { is = loop-first q f; below = h }
 

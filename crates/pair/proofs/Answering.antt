@@ -9,6 +9,7 @@ use borrow.Author.Tests.{not-false}
 use Rattle.lists.specs.Index.{same}
 use Rattle.lists.specs.Check.{Check, _⇒_, Verdict, accepted, refused, first}
 use Rattle.lists.specs.TestLaws.{Clean, clean, holds-each, same-eq, first-stops, first-more, first-hit, first-miss, not-of-true, not-of-false}
+use Rattle.protocol.proofs.Demand3.{is-accepted}
 use Rattle.protocol.specs.Key.{Key, keyOf, keyChecks}
 use Rattle.protocol.specs.Transcript.{Parts, partsOf}
 use Rattle.protocol.specs.Judge.{runChecks}
@@ -69,19 +70,14 @@ reads-finding K P R e {r} {a} {b} {c} {d} {s} {t} {u} {v} is made =
     subst (λ (j : ℕ). Reads (firstDifferent (suc j) (comparisons K P R j) (values K P R j)) r a b c d s t u v) is made
 
 -- ---- refusals
-accepted-is : (v : Verdict) → isAccepted v ≡ true → v ≡ accepted
-unfolding isAccepted
-accepted-is accepted e = refl
-accepted-is (refused n) e = absurd (let z : _≡_ {A = ℕ} 0 1 = cc e in omega arith)
-
 pub forks-of : (K : Key) (x y : List ℕ) {n : ℕ} → GoodKey K → n ≡ numberOf (first (forkChecks K x y)) → n ≡ 0 → Forks K x y
 unfolding forkChecks
 forks-of K x y key e z =
     let c : Clean (forkChecks K x y) = clean (forkChecks K x y) (none-applies (forkChecks K x y) (omega arith, (omega arith, (omega arith, (omega arith, tt)))) (sym e ∙ z)) in
     record {
       key = key;
-      first-good = accepted-is (first (runChecks K x)) (not-false _ (c .0));
-      second-good = accepted-is (first (runChecks K y)) (not-false _ (c .1 .0));
+      first-good = is-accepted (first (runChecks K x)) (not-false _ (c .0));
+      second-good = is-accepted (first (runChecks K y)) (not-false _ (c .1 .0));
       fronts = not-false _ (c .1 .1 .0);
       hidden-differ = c .1 .1 .1 .0;
     }

@@ -8,9 +8,6 @@ use Rattle.protocol.specs.Prover.{hiddenOf}
 use Rattle.protocol.specs.Transcript.{partAt, partsOf}
 use Rattle.protocol.specs.Judge.{hidden}
 use Rattle.protocol.specs.Pair.{execution}
-use Rattle.key.specs.declared.Numbers.{Numbers}
-use Rattle.key.specs.Numbers.{Limits}
-use Rattle.execution.specs.Shown.{Limits as ShareLimits}
 use Rattle.pair.specs.Forks.{Located}
 
 pub second-is : {l : List ℕ} (x : List ℕ) → l ≡ partAt x 1 → partsOf x .p2 ≡ l
@@ -30,6 +27,3 @@ located K x y {e} {h1} {h2} {p2} {p6} {r2} {r6} a b c d is i j =
       hides1 = ap₂ (λ (s t : List ℕ). hiddenOf s t e) a b ∙ sym i;
       hides2 = ap₂ (λ (s t : List ℕ). hiddenOf s t e) c d ∙ sym j;
     }
-
-pub limits-in : {k : Numbers} → Limits k → ShareLimits (k .q) (k .m) (k .parties)
-limits-in l = record { q-listed = l .q-listed; m-least = l .m-least; m-most = l .m-most; N-least = l .N-least; N-most = l .N-most }

@@ -328,7 +328,7 @@ truth-finding K P R (secret bits) h = tt
 truth-finding K P R (square e k bk dk) h = tt
 truth-finding K P R (errors e list) h = tt
 
-is-accepted : (v : Verdict) → isAccepted v ≡ true → v ≡ accepted
+pub is-accepted : (v : Verdict) → isAccepted v ≡ true → v ≡ accepted
 unfolding isAccepted
 is-accepted accepted e = refl
 is-accepted (refused n) e = absurd (false≢true e)

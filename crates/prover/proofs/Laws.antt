@@ -14,7 +14,7 @@ use Rattle.lists.specs.Index.{holds, pick, count}
 use Rattle.lists.specs.Check.{Check, _⇒_, Verdict, accepted, refused, first}
 use Rattle.lists.specs.TestLaws.{first-stops, first-more, Clean, clean, cleared, clean-left, clean-right, holds-each, count-suc, count-below, count-mono}
 use Rattle.numbers.specs.Sum.{sum}
-use Rattle.refusals.specs.Number.{numberOf, none-applies, Numbered, numbered-append}
+use Rattle.refusals.specs.Number.{numberOf, refused-is, none-applies, Numbered, numbered-append}
 use Rattle.protocol.specs.Key.{Key, entries, keyOf, keyChecks}
 use Rattle.protocol.specs.Shares.{b, s}
 use Rattle.protocol.specs.Prover.{message1, message3, message5, message7, checks1, checks3, checks5, checks7, statementChecks, goodE, goodHidden, binary, solves, sized, opened, lentChecks, verdict1, verdict3, verdict5, verdict7, output}
@@ -30,10 +30,6 @@ use Rattle.prover.specs.declared.Answer.the-variants.{Length, Refused}
 use Rattle.prover.specs.Parts.{SizedInputs, Inputs}
 
 -- ---- refusals
-pub refused-is : (v : Verdict) {n : ℕ} → n ≡ numberOf v → (n ≡ 0 → ⊥) → v ≡ refused n
-refused-is accepted e h = absurd (h e)
-refused-is (refused k) e h = ap refused (sym e)
-
 -- the first number that applies of two lists of tests
 pub of-left : (a b : List Check) {n : ℕ} → n ≡ numberOf (first a) → (n ≡ 0 → ⊥) → n ≡ numberOf (first (a ++ b))
 of-left a b e h = sym (ap numberOf (first-stops a b (refused-is (first a) e h)))

@@ -1,10 +1,10 @@
 -- Steps of the proofs of this crate.
 -- Assumes nothing.
-use Prim.Native.Nat.{ℕ, suc, _+_, _*_, _-_, _%_, _<_, _≤_}
+use Prim.Native.Nat.{ℕ, _+_, _*_, _-_, _%_, _<_, _≤_}
 use mathlib.Core.Path.{_≡_, refl, sym, _∙_, ap}
 use mathlib.Core.Bool.{Bool, true, false, not}
 use mathlib.Core.List.{List, [], _∷_, _++_, append-nil}
-use native.Mathlib.Nat.{mod-mod, mul-le-mul}
+use native.Mathlib.Nat.{mod-mod}
 use native.Mathlib.Numerals.{add-one}
 use native.Mathlib.Omega.{arith}
 use borrow.Author.Count.{below-more}
@@ -76,10 +76,6 @@ unfolding vOf
 v-is q m x j r e = e
 
 -- ---- rows
-
--- row l of m entries lies within n rows
-pub row-fits : (l n m : ℕ) → l < n → l * m + m ≤ n * m
-row-fits l n m h = omega (arith, mul-le-mul {n₁ = suc l} {m₁ = m} {n₂ = n} {m₂ = m} h (omega arith))
 
 module _ (k : Numbers) (entries x : List ℕ) where
   -- row l of A times s

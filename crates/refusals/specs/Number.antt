@@ -1,7 +1,7 @@
 -- A verdict as the number that a call returns: 0 where it accepts, else the refusal's number.
 -- Assumes nothing.
 use Prim.Native.Nat.{ℕ, _<_}
-use mathlib.Core.Path.{_≡_, refl}
+use mathlib.Core.Path.{_≡_, refl, sym, ap}
 use mathlib.Core.Bool.{true, false}
 use mathlib.Core.List.{List, [], _∷_, _++_}
 use native.Mathlib.Omega.{arith}
@@ -10,6 +10,11 @@ use Rattle.lists.specs.Check.{Check, _⇒_, Verdict, accepted, refused, first}
 abbrev pub numberOf : Verdict → ℕ
 numberOf accepted = 0
 numberOf (refused n) = n
+
+-- A number that is not 0 is a refusal's.
+pub refused-is : (v : Verdict) {n : ℕ} → n ≡ numberOf v → (n ≡ 0 → ⊥) → v ≡ refused n
+refused-is accepted e h = absurd (h e)
+refused-is (refused k) e h = ap refused (sym e)
 
 -- Each number of a list of tests is above 0.
 abbrev pub Numbered : List Check → Type 0

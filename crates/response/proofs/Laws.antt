@@ -15,13 +15,14 @@ use Rattle.lists.specs.Tab.{tab, tab-at, tab-length, Filling}
 use Rattle.lists.specs.Index.{pick, part}
 use Rattle.lists.specs.Bytes.{le4, words, nums}
 use Rattle.lists.specs.CatLaws.{nums-ext, nums-split, part-length}
-use Rattle.lists.specs.TestLaws.{pick-true, pick-false}
+use Rattle.lists.specs.TestLaws.{pick-false}
 use Rattle.numbers.specs.Mod.{sub, sub-lt, sub-is, sub-cong, cong-trans, cong-sym, cong-eq, cong-mod, cong-same}
 use Rattle.numbers.specs.Sum.{sum, sum-same, sum-cong, sum-add, sum-mul}
 use Rattle.tree.specs.Tree.{opening}
 use Rattle.protocol.specs.Key.{Key, depth}
-use Rattle.protocol.specs.Shares.{View, b, d, s, α, αsum, o, Γ, dealt}
+use Rattle.protocol.specs.Shares.{View, b, s, α, αsum, o, Γ, dealt}
 use Rattle.protocol.specs.Prover.{reply}
+use Rattle.execution.proofs.Held.{d-last, s-last}
 use Rattle.execution.specs.Shown.{Sized, Seeded, placeOf}
 use Rattle.execution.specs.Prepared.{Dealt, lastCount}
 use Rattle.execution.proofs.Laws.{inside}
@@ -156,14 +157,6 @@ module _ (m N h : ℕ) (work : List ℕ) where
   last-some out other is =
       let z : 3 * m * (N - 1) + m + 2 * m - (3 * m * (N - 1) + m) ≡ 2 * m = omega arith in
       rw (ne-eqb (suc h) N (λ y. other (omega arith))) (is ∙ ap (λ x. words (take x (drop (3 * m * (N - 1) + m) work))) z)
-
-d-last : (K : Key) (v : View) (k i : ℕ) → suc i ≡ K .N → d K v k i ≡ v .dN k
-unfolding d
-d-last K v k i e = pick-true (eqb (suc i) (K .N)) _ _ (eq-eqb (suc i) (K .N) e)
-
-s-last : (K : Key) (v : View) (k i : ℕ) → suc i ≡ K .N → s K v k i ≡ v .sN k
-unfolding s
-s-last K v k i e = pick-true (eqb (suc i) (K .N)) _ _ (eq-eqb (suc i) (K .N) e)
 
 -- ---- the reply
 module _ {q n m N e : ℕ} {entries leaves work : List ℕ} {K : Key} {v : View} (so : Held q n m N e entries work K v) (seeds : Seeded K v leaves) (some : 1 ≤ N) (long : 3 * m * N ≤ length work) where

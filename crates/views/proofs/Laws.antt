@@ -106,7 +106,7 @@ module _ {m N hid e : ℕ} {given leaves work : List ℕ} {K : Key} {v : View} (
       let w : 3 * m * i + m + k ≡ 3 * m * i + (m + k) = omega arith in
       ap (λ n. getD work n 0) w ∙ sym (rw z at (so .dN (λ y. other (omega arith)) k y)))
 
-  d-part : (i : ℕ) → i < N → (i ≡ hid → ⊥) → Dec (suc i ≡ N)
+  pub d-part : (i : ℕ) → i < N → (i ≡ hid → ⊥) → Dec (suc i ≡ N)
       → words (pick (eqb (suc i) N) (part work (3 * m * i + m) m) []) ≡ pick (eqb (suc i) N) (nums m (v .dN)) []
   unfolding words
   d-part i h other (yes z) = rw (eq-eqb (suc i) N z) (d-words i h other z)

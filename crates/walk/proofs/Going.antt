@@ -8,7 +8,7 @@ use mathlib.Core.List.{List, [], _++_}
 use native.Mathlib.Omega.{arith}
 use lib.ListN.{length}
 use Rattle.lists.specs.Index.{pick, cat, count, part}
-use Rattle.lists.specs.Check.{Verdict, accepted, refused, first}
+use Rattle.lists.specs.Check.{accepted, first}
 use Rattle.lists.specs.CatLaws.{cat-zero, cat-more}
 use Rattle.lists.specs.TestLaws.{decide, pick-true, pick-false, count-zero, count-hit, count-miss, count-le, first-cat-zero, first-cat-next, first-cat-stops}
 use Rattle.numbers.specs.Sum.{sum-zero}
@@ -18,14 +18,9 @@ use Rattle.protocol.specs.Prover.{opened, rank, kept, hΓin, hπin, hψin, good
 use Rattle.protocol.specs.Transcript.{Parts}
 use Rattle.protocol.specs.Judge.{replySize}
 use Rattle.protocol.proofs.Opened.{opened-count}
-use Rattle.refusals.specs.Number.{numberOf}
+use Rattle.refusals.specs.Number.{numberOf, refused-is}
 use Rattle.walk.specs.Lists.{listsSize}
 use Rattle.walk.specs.Walk.{Reached, Stepped, Stored, Going, Walked, checksAt, hashAt, ΠAt, ΨAt}
-
--- a verdict whose number is not 0
-pub refused-of : (v : Verdict) {n : ℕ} → n ≡ numberOf v → (n ≡ 0 → ⊥) → v ≡ refused n
-refused-of accepted {n} e h = absurd (h e)
-refused-of (refused k) {n} e h = ap refused (sym e)
 
 module _ (K : Key) (P : Parts) where
   pub reached-first : Reached 0 0 16 K P
@@ -86,7 +81,7 @@ module _ (K : Key) (P : Parts) where
     walk-stops {y} below ne =
         record {
           code-is =
-              sym (ap numberOf (first-cat-stops (K .M) e (checksAt K P) below (so .clean) (refused-of (first (checksAt K P e)) (step .code-is) ne)));
+              sym (ap numberOf (first-cat-stops (K .M) e (checksAt K P) below (so .clean) (refused-is (first (checksAt K P e)) (step .code-is) ne)));
           clean = λ z. absurd (ne z);
           listed = λ z. absurd (ne z);
         }

@@ -9,8 +9,8 @@ use native.Mathlib.Omega.{arith}
 use borrow.Author.Tests.{eq-eqb, ne-eqb}
 use Rattle.lists.specs.Index.{every}
 use Rattle.lists.specs.TestLaws.{every-zero, every-next}
-use Rattle.key.specs.KeyLaws.{entries-most}
-use Rattle.forms.proofs.Laws.{row-fits, solvesRow, row-is, target-is, solves-stops, solves-all}
+use Rattle.key.specs.KeyLaws.{entries-most, row-fits}
+use Rattle.forms.proofs.Laws.{solvesRow, row-is, target-is, solves-stops, solves-all}
 use borrow.Author.Needs.{needs}
 use Rattle.forms.proofs.is_solution.Statement.{statement}
 use Rattle.forms.proofs.is_solution.Tie as tie

@@ -6,8 +6,8 @@ use native.Mathlib.Omega.{arith}
 use Rattle.lists.specs.Index.{every}
 use Rattle.lists.specs.TestLaws.{every-zero}
 use Rattle.numbers.specs.Residue.{Residue}
-use Rattle.key.specs.KeyLaws.{entries-most}
-use Rattle.reading.proofs.Laws.{row-fits, rowAt, isRow, row-is, rows-next, rows-stop, rows-all}
+use Rattle.key.specs.KeyLaws.{entries-most, row-fits}
+use Rattle.reading.proofs.Laws.{rowAt, isRow, row-is, rows-next, rows-stop, rows-all}
 use borrow.Author.Needs.{needs}
 use Rattle.reading.proofs.is_solution.Statement.{statement}
 use Rattle.reading.proofs.is_solution.Tie as tie

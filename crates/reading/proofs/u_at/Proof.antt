@@ -2,8 +2,8 @@
 use Prim.Native.Nat.{ℕ, _+_, _*_, _≤_}
 use mathlib.Core.Path.{refl}
 use native.Mathlib.Omega.{arith}
-use Rattle.key.specs.KeyLaws.{entries-most}
-use Rattle.reading.proofs.Laws.{row-fits, row-is, u-is}
+use Rattle.key.specs.KeyLaws.{entries-most, row-fits}
+use Rattle.reading.proofs.Laws.{row-is, u-is}
 use borrow.Author.Needs.{needs}
 use Rattle.reading.proofs.u_at.Statement.{statement}
 use Rattle.reading.proofs.u_at.Tie as tie

@@ -6,7 +6,7 @@ use Rattle.lists.specs.Tab.{tab-length}
 use Rattle.protocol.specs.Transcript.{partsOf}
 use Rattle.key.specs.Numbers.{keyWith}
 use Rattle.joined.specs.Joined.{joined-by}
-use Rattle.pair.proofs.Laws.{limits-in}
+use Rattle.side.proofs.Laws.{limits-of}
 use borrow.Author.Needs.{needs}
 use Rattle.pair.proofs.sides.open_both.Statement.{statement}
 use Rattle.pair.proofs.sides.open_both.Tie as tie
@@ -19,7 +19,7 @@ open-side-requires c κs =
 join-open-requires : tie.Need-join-open-requires
 join-open-requires c κs =
     let p = c .before .before .before .before .before .before .before .before .before .before .before .before .before .before .before .before .pre in
-    (limits-in (p .0), (omega (arith, p .1 .1 .1 .1 .1 .1 .1 .1, c .before .before .before .before .before .before .open-side .ensures .1 .1), p .1 .1 .1 .1 .1 .1 .1 .0))
+    (limits-of _ (p .0), (omega (arith, p .1 .1 .1 .1 .1 .1 .1 .1, c .before .before .before .before .before .before .open-side .ensures .1 .1), p .1 .1 .1 .1 .1 .1 .1 .0))
 
 open-side-requires-2 : tie.Need-open-side-requires-2
 open-side-requires-2 c κs =
@@ -29,7 +29,7 @@ open-side-requires-2 c κs =
 join-party-requires : tie.Need-join-party-requires
 join-party-requires c κs =
     let p = c .before .before .before .before .before .before .before .before .before .before .before .before .before .before .before .before .before .before .before .before .before .before .before .before .before .before .before .before .pre in (
-      limits-in (p .0),
+      limits-of _ (p .0),
       (
         p .1 .0 .below,
         (
