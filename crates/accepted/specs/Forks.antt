@@ -3,12 +3,13 @@
 use mathlib.Core.Bool.{not}
 use mathlib.Core.List.{List, [], _∷_}
 use Prim.Native.Nat.{ℕ}
-use Rattle.lists.specs.Index.{same}
+use Rattle.lists.specs.Index.{pick, same}
 use Rattle.lists.specs.Check.{Check, _⇒_, first}
 use Rattle.protocol.specs.Key.{Key}
 use Rattle.protocol.specs.Transcript.{partsOf}
 use Rattle.protocol.specs.Judge.{runChecks}
 use Rattle.protocol.specs.Pair.{sameFront, isAccepted}
+use Rattle.judge.specs.Lists.{runLists}
 
 unfoldable pub forkChecks : Key → List ℕ → List ℕ → List Check
 forkChecks K x y =
@@ -17,3 +18,7 @@ forkChecks K x y =
     ∷ not (sameFront K (partsOf x) (partsOf y)) ⇒ 22
     ∷ same (partsOf x .p6) (partsOf y .p6) ⇒ 23
     ∷ []
+
+-- The list for the hash inputs of the second transcript, which was l: it is judged only if the first is accepted.
+unfoldable pub secondLists : Key → List ℕ → List ℕ → List ℕ → List ℕ
+secondLists K x y l = pick (isAccepted (first (runChecks K x))) (runLists K y l) l

@@ -8,7 +8,8 @@ ghost use Rattle.refusals.specs.Number.{numberOf};
 ghost use Rattle.protocol.specs.Transcript.{partsOf};
 ghost use Rattle.key.specs.Numbers.{Limits, keyWith};
 ghost use Rattle.walk.specs.Lists.{listsSize, Listed};
-ghost use Rattle.accepted.specs.Forks.{forkChecks};
+ghost use Rattle.judge.specs.Lists.{runLists};
+ghost use Rattle.accepted.specs.Forks.{forkChecks, secondLists};
 use judge::run;
 use key::Numbers;
 use refusals::FIRST_RUN;
@@ -16,7 +17,7 @@ use refusals::FRONTS_DIFFER;
 use refusals::HIDDEN_EQUAL;
 use refusals::SECOND_RUN;
 
-// The first number that applies to two transcripts, or 0. Each list gets the inputs of a transcript's list hashes.
+// The first number that applies to two transcripts, or 0. Where it is 0, each list has the inputs of a transcript's list hashes.
 pub fn refusal(
     k: Numbers,
     entries: &[u32],
@@ -34,8 +35,8 @@ pub fn refusal(
     ensures { λ r. ⌜ r ≡ numberOf (first (forkChecks (keyWith k (now (entries .entry))) (now (run1 .entry)) (now (run2 .entry)))) ⌝ }
     ensures { λ r. ⌜ (r ≡ 0 → Listed (keyWith k (now (entries .entry))) (partsOf (now (run1 .entry))) (now (lists1 .exit))) ⌝ }
     ensures { λ r. ⌜ (r ≡ 0 → Listed (keyWith k (now (entries .entry))) (partsOf (now (run2 .entry))) (now (lists2 .exit))) ⌝ }
-    ensures { λ _. ⌜ length (now (lists1 .exit)) ≡ length (now (lists1 .entry)) ⌝ }
-    ensures { λ _. ⌜ length (now (lists2 .exit)) ≡ length (now (lists2 .entry)) ⌝ }
+    ensures { λ _. ⌜ now (lists1 .exit) ≡ runLists (keyWith k (now (entries .entry))) (now (run1 .entry)) (now (lists1 .entry)) ⌝ }
+    ensures { λ _. ⌜ now (lists2 .exit) ≡ secondLists (keyWith k (now (entries .entry))) (now (run1 .entry)) (now (run2 .entry)) (now (lists2 .entry)) ⌝ }
 {
     if run::judge_run(k, entries, run1, lists1, work) != 0 {
         return FIRST_RUN;

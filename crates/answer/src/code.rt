@@ -5,6 +5,7 @@ ghost use Prim.Native.Nat.{_≤_};
 ghost use lib.IntN.{pos, negℤ};
 ghost use mir.Syntax.{w64};
 ghost use mir.Val.{SFits};
+ghost use Rattle.reading.specs.Answers.{means};
 ghost use Rattle.answer.specs.Codes.{codeOf, lengthOf, findingCode};
 use prover::Answer;
 use reading::Reading;
@@ -37,7 +38,7 @@ pub fn code(answer: Answer) -> i64
 
 // The finding's number, or minus the refusal's.
 pub fn finding_code(r: Reading) -> i64
-    ensures { λ c. ⌜ (c ≡ findingCode r) × SFits w64 c ⌝ }
+    ensures { λ c. ⌜ (c ≡ findingCode (means r)) × SFits w64 c ⌝ }
 {
     match r {
         Reading::Refused(n) => refusal_code(n),

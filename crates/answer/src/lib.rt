@@ -3,16 +3,18 @@
 pub mod code;
 
 ghost use mathlib.Core.Path.{_≡_};
-ghost use Prim.Native.Nat.{_%_, _≤_};
+ghost use Prim.Native.Nat.{_≤_, _<_};
 ghost use lib.ListN.{length};
-ghost use Rattle.answer.specs.Rows.{row, rowAfter};
+ghost use Rattle.reading.specs.Answers.{means};
+ghost use Rattle.answer.specs.Rows.{row, rowAfter, Narrow};
 use reading::Reading;
 
-// A number as 32 bits hold it.
+// A number that 32 bits hold: the cast changes no value.
 fn word(x: usize) -> u32
-    ensures { λ r. ⌜ r ≡ x % 4294967296 ⌝ }
+    requires { ⌜ x < 4294967296 ⌝ }
+    ensures { λ r. ⌜ r ≡ x ⌝ }
 {
-    (x % 4294967296) as u32
+    x as u32
 }
 
 // Seven numbers and 0.
@@ -33,7 +35,8 @@ fn fill(out: &mut [u32], kind: u32, e: u32, i: u32, size: u32, k: u32, b: u32, d
 // The eight numbers of a finding to the front of a list.
 pub fn write_row(r: Reading, answer: &mut [u32])
     requires { ⌜ 8 ≤ length (now answer) ⌝ }
-    ensures { λ _. ⌜ now (answer .exit) ≡ rowAfter r (now (answer .entry)) ⌝ }
+    requires { ⌜ Narrow (means r) ⌝ }
+    ensures { λ _. ⌜ now (answer .exit) ≡ rowAfter (means r) (now (answer .entry)) ⌝ }
 {
     match r {
         Reading::Refused(_) => {}

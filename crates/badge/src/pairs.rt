@@ -9,7 +9,8 @@ ghost use mir.Val.{SFits};
 ghost use Rattle.lists.specs.Check.{_⇒_, first};
 ghost use Rattle.refusals.specs.Number.{numberOf};
 ghost use Rattle.protocol.specs.Key.{keyOf, keyChecks};
-ghost use Rattle.reading.specs.Answers.{answerOf, hash1Of, hash2Of, bitsOf, errorsOf};
+ghost use Rattle.protocol.specs.Pair.{says};
+ghost use Rattle.reading.specs.Answers.{hash1Of, hash2Of, bitsOf, errorsOf};
 ghost use Rattle.answer.specs.Codes.{findingCode};
 ghost use Rattle.answer.specs.Rows.{rowAfter};
 ghost use Rattle.pair.specs.Lent.{lengths};
@@ -41,12 +42,12 @@ fn read(
     entries: &mut [u32],
     work: &mut [u32],
 ) -> i64
-    ensures { λ r. ⌜ (r ≡ findingCode (answerOf (pairCall (length (now (answer .entry))) (now (key .entry)) (lengths (length (now (hash1 .entry))) (length (now (hash2 .entry))) (length (now (secret .entry))) (length (now (uv .entry))) (length (now (entries .entry))) (length (now (work .entry)))) (now (run1 .entry)) (now (run2 .entry))))) × SFits w64 r ⌝ }
+    ensures { λ r. ⌜ (r ≡ findingCode (says (pairCall (length (now (answer .entry))) (now (key .entry)) (lengths (length (now (hash1 .entry))) (length (now (hash2 .entry))) (length (now (secret .entry))) (length (now (uv .entry))) (length (now (entries .entry))) (length (now (work .entry)))) (now (run1 .entry)) (now (run2 .entry))))) × SFits w64 r ⌝ }
     ensures { λ _. ⌜ now (hash1 .exit) ≡ hash1Of (pairCall (length (now (answer .entry))) (now (key .entry)) (lengths (length (now (hash1 .entry))) (length (now (hash2 .entry))) (length (now (secret .entry))) (length (now (uv .entry))) (length (now (entries .entry))) (length (now (work .entry)))) (now (run1 .entry)) (now (run2 .entry))) (now (hash1 .entry)) ⌝ }
     ensures { λ _. ⌜ now (hash2 .exit) ≡ hash2Of (pairCall (length (now (answer .entry))) (now (key .entry)) (lengths (length (now (hash1 .entry))) (length (now (hash2 .entry))) (length (now (secret .entry))) (length (now (uv .entry))) (length (now (entries .entry))) (length (now (work .entry)))) (now (run1 .entry)) (now (run2 .entry))) (now (hash2 .entry)) ⌝ }
     ensures { λ _. ⌜ now (secret .exit) ≡ bitsOf (pairCall (length (now (answer .entry))) (now (key .entry)) (lengths (length (now (hash1 .entry))) (length (now (hash2 .entry))) (length (now (secret .entry))) (length (now (uv .entry))) (length (now (entries .entry))) (length (now (work .entry)))) (now (run1 .entry)) (now (run2 .entry))) (now (secret .entry)) ⌝ }
     ensures { λ _. ⌜ now (uv .exit) ≡ errorsOf (pairCall (length (now (answer .entry))) (now (key .entry)) (lengths (length (now (hash1 .entry))) (length (now (hash2 .entry))) (length (now (secret .entry))) (length (now (uv .entry))) (length (now (entries .entry))) (length (now (work .entry)))) (now (run1 .entry)) (now (run2 .entry))) (now (uv .entry)) ⌝ }
-    ensures { λ _. ⌜ now (answer .exit) ≡ rowAfter (answerOf (pairCall (length (now (answer .entry))) (now (key .entry)) (lengths (length (now (hash1 .entry))) (length (now (hash2 .entry))) (length (now (secret .entry))) (length (now (uv .entry))) (length (now (entries .entry))) (length (now (work .entry)))) (now (run1 .entry)) (now (run2 .entry)))) (now (answer .entry)) ⌝ }
+    ensures { λ _. ⌜ now (answer .exit) ≡ rowAfter (says (pairCall (length (now (answer .entry))) (now (key .entry)) (lengths (length (now (hash1 .entry))) (length (now (hash2 .entry))) (length (now (secret .entry))) (length (now (uv .entry))) (length (now (entries .entry))) (length (now (work .entry)))) (now (run1 .entry)) (now (run2 .entry)))) (now (answer .entry)) ⌝ }
 {
     if answer.len() < 8 {
         return code::refusal_code(short_answer(key));
@@ -70,12 +71,12 @@ pub extern "C" fn badge_pair_lent(
     entries: &mut [u32],
     work: &mut [u32],
 ) -> i64
-    ensures { λ r. ⌜ r ≡ findingCode (answerOf (pairCall (length (now (answer .entry))) (now (key .entry)) (lengths (length (now (hash1 .entry))) (length (now (hash2 .entry))) (length (now (secret .entry))) (length (now (uv .entry))) (length (now (entries .entry))) (length (now (work .entry)))) (now (run1 .entry)) (now (run2 .entry)))) ⌝ }
+    ensures { λ r. ⌜ r ≡ findingCode (says (pairCall (length (now (answer .entry))) (now (key .entry)) (lengths (length (now (hash1 .entry))) (length (now (hash2 .entry))) (length (now (secret .entry))) (length (now (uv .entry))) (length (now (entries .entry))) (length (now (work .entry)))) (now (run1 .entry)) (now (run2 .entry)))) ⌝ }
     ensures { λ _. ⌜ now (hash1 .exit) ≡ hash1Of (pairCall (length (now (answer .entry))) (now (key .entry)) (lengths (length (now (hash1 .entry))) (length (now (hash2 .entry))) (length (now (secret .entry))) (length (now (uv .entry))) (length (now (entries .entry))) (length (now (work .entry)))) (now (run1 .entry)) (now (run2 .entry))) (now (hash1 .entry)) ⌝ }
     ensures { λ _. ⌜ now (hash2 .exit) ≡ hash2Of (pairCall (length (now (answer .entry))) (now (key .entry)) (lengths (length (now (hash1 .entry))) (length (now (hash2 .entry))) (length (now (secret .entry))) (length (now (uv .entry))) (length (now (entries .entry))) (length (now (work .entry)))) (now (run1 .entry)) (now (run2 .entry))) (now (hash2 .entry)) ⌝ }
     ensures { λ _. ⌜ now (secret .exit) ≡ bitsOf (pairCall (length (now (answer .entry))) (now (key .entry)) (lengths (length (now (hash1 .entry))) (length (now (hash2 .entry))) (length (now (secret .entry))) (length (now (uv .entry))) (length (now (entries .entry))) (length (now (work .entry)))) (now (run1 .entry)) (now (run2 .entry))) (now (secret .entry)) ⌝ }
     ensures { λ _. ⌜ now (uv .exit) ≡ errorsOf (pairCall (length (now (answer .entry))) (now (key .entry)) (lengths (length (now (hash1 .entry))) (length (now (hash2 .entry))) (length (now (secret .entry))) (length (now (uv .entry))) (length (now (entries .entry))) (length (now (work .entry)))) (now (run1 .entry)) (now (run2 .entry))) (now (uv .entry)) ⌝ }
-    ensures { λ _. ⌜ now (answer .exit) ≡ rowAfter (answerOf (pairCall (length (now (answer .entry))) (now (key .entry)) (lengths (length (now (hash1 .entry))) (length (now (hash2 .entry))) (length (now (secret .entry))) (length (now (uv .entry))) (length (now (entries .entry))) (length (now (work .entry)))) (now (run1 .entry)) (now (run2 .entry)))) (now (answer .entry)) ⌝ }
+    ensures { λ _. ⌜ now (answer .exit) ≡ rowAfter (says (pairCall (length (now (answer .entry))) (now (key .entry)) (lengths (length (now (hash1 .entry))) (length (now (hash2 .entry))) (length (now (secret .entry))) (length (now (uv .entry))) (length (now (entries .entry))) (length (now (work .entry)))) (now (run1 .entry)) (now (run2 .entry)))) (now (answer .entry)) ⌝ }
 {
     read(
         key,
@@ -103,12 +104,12 @@ pub extern "C" fn badge_pair(
     uv: &mut [u32],
     answer: &mut [u32],
 ) -> i64
-    ensures { λ r. ⌜ r ≡ findingCode (answerOf (pairCall (length (now (answer .entry))) (now (key .entry)) (lengths (length (now (hash1 .entry))) (length (now (hash2 .entry))) (length (now (secret .entry))) (length (now (uv .entry))) 4128 16384) (now (run1 .entry)) (now (run2 .entry)))) ⌝ }
+    ensures { λ r. ⌜ r ≡ findingCode (says (pairCall (length (now (answer .entry))) (now (key .entry)) (lengths (length (now (hash1 .entry))) (length (now (hash2 .entry))) (length (now (secret .entry))) (length (now (uv .entry))) 4128 16384) (now (run1 .entry)) (now (run2 .entry)))) ⌝ }
     ensures { λ _. ⌜ now (hash1 .exit) ≡ hash1Of (pairCall (length (now (answer .entry))) (now (key .entry)) (lengths (length (now (hash1 .entry))) (length (now (hash2 .entry))) (length (now (secret .entry))) (length (now (uv .entry))) 4128 16384) (now (run1 .entry)) (now (run2 .entry))) (now (hash1 .entry)) ⌝ }
     ensures { λ _. ⌜ now (hash2 .exit) ≡ hash2Of (pairCall (length (now (answer .entry))) (now (key .entry)) (lengths (length (now (hash1 .entry))) (length (now (hash2 .entry))) (length (now (secret .entry))) (length (now (uv .entry))) 4128 16384) (now (run1 .entry)) (now (run2 .entry))) (now (hash2 .entry)) ⌝ }
     ensures { λ _. ⌜ now (secret .exit) ≡ bitsOf (pairCall (length (now (answer .entry))) (now (key .entry)) (lengths (length (now (hash1 .entry))) (length (now (hash2 .entry))) (length (now (secret .entry))) (length (now (uv .entry))) 4128 16384) (now (run1 .entry)) (now (run2 .entry))) (now (secret .entry)) ⌝ }
     ensures { λ _. ⌜ now (uv .exit) ≡ errorsOf (pairCall (length (now (answer .entry))) (now (key .entry)) (lengths (length (now (hash1 .entry))) (length (now (hash2 .entry))) (length (now (secret .entry))) (length (now (uv .entry))) 4128 16384) (now (run1 .entry)) (now (run2 .entry))) (now (uv .entry)) ⌝ }
-    ensures { λ _. ⌜ now (answer .exit) ≡ rowAfter (answerOf (pairCall (length (now (answer .entry))) (now (key .entry)) (lengths (length (now (hash1 .entry))) (length (now (hash2 .entry))) (length (now (secret .entry))) (length (now (uv .entry))) 4128 16384) (now (run1 .entry)) (now (run2 .entry)))) (now (answer .entry)) ⌝ }
+    ensures { λ _. ⌜ now (answer .exit) ≡ rowAfter (says (pairCall (length (now (answer .entry))) (now (key .entry)) (lengths (length (now (hash1 .entry))) (length (now (hash2 .entry))) (length (now (secret .entry))) (length (now (uv .entry))) 4128 16384) (now (run1 .entry)) (now (run2 .entry)))) (now (answer .entry)) ⌝ }
 {
     let mut entries = [0u32; 4128];
     let mut work = [0u32; 16384];

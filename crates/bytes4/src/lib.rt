@@ -5,6 +5,7 @@ ghost use Prim.Native.Nat.{_+_, _*_, _≤_, _<_};
 ghost use lib.ListN.{length, getD};
 ghost use Rattle.lists.specs.Bytes.{le4, words, num};
 ghost use Rattle.lists.specs.Index.{same};
+ghost use Rattle.lists.specs.ByteList.{Bytes};
 ghost use Rattle.bytes4.specs.Byte.{Byte};
 
 // The byte at a place.
@@ -63,5 +64,14 @@ pub fn put_numbers(xs: &[u32], out: &mut [u8])
         let end = at + 4;
         put32(xs[k], &mut out[at..end]);
         k += 1;
+    }
+}
+
+// Every list that is lent as bytes is a list of bytes. The read is how the proof comes to know it; nothing is done with the byte.
+pub fn lent_bytes(b: &[u8])
+    ensures { λ _. ⌜ Bytes (now (b .entry)) ⌝ }
+{
+    if b.len() > 0 {
+        let first = b[0] as u32;
     }
 }

@@ -1,11 +1,10 @@
--- Steps of the proofs of this crate: the first comparison of joined lists of comparisons, each group of the pair reader's list, and the list
--- laid out.
+-- Steps of the proofs of this crate: the first spot of joined lists of spots, each group of the pair reader's list, and the list laid out.
 -- Assumes nothing.
 use Prim.Native.Nat.{ℕ, zero, suc, _+_, _*_, _-_, _≤_, _<_}
 use mathlib.Core.Path.{_≡_, refl, sym, ap, ap₂, _∙_, subst}
 use mathlib.Core.Logic.{_⊎_, inl, inr}
 use mathlib.Core.Bool.{Bool, true, false, not}
-use mathlib.Core.List.{List, [], _∷_, _++_, append-assoc}
+use mathlib.Core.List.{List, [], _∷_, _++_, append-assoc, append-nil}
 use native.Mathlib.Nat.{not-suc-le-zero, le-of-suc-le-suc, eq-or-lt-of-le, mul-le-mul}
 use native.Mathlib.Numerals.{add-one}
 use native.Mathlib.Omega.{arith}
@@ -13,7 +12,7 @@ use lib.Dec.{eqb}
 use lib.ListN.{length, take, drop}
 use borrow.Author.Tests.{eqb-false, eq-eqb, ne-eqb, not-true}
 use Rattle.lists.specs.Index.{pick, part, cat, same, holds}
-use Rattle.lists.specs.TestLaws.{pick-true, pick-false, same-eq, same-of, holds-each}
+use Rattle.lists.specs.TestLaws.{pick-true, pick-false, holds-each}
 use Rattle.lists.specs.CatLaws.{cat-ext}
 use Rattle.protocol.specs.Key.{Key, keptCount}
 use Rattle.protocol.specs.Shares.{View, Γin, hin, Ωin, Πin, Ψin}
@@ -26,36 +25,20 @@ use Rattle.key.specs.Numbers.{Of, Limits}
 use Rattle.walk.specs.Lists.{Listed, listsSize, hπFrom, hψFrom}
 use Rattle.inputs.specs.Layout.{Written, executionSize, ΓFrom, ΓSize, ΩFrom, ΠFrom, ΨFrom}
 use Rattle.compare.specs.declared.Spot.{Spot}
-use Rattle.compare.specs.Spots.{Spotted, Inside, Spots, Marked, openBoth, at, onHashes, onParty, onLast, onRest, onAll}
+use Rattle.compare.specs.Spots.{Spotted, Inside, Spots, Marked, Equal, at, nowhere, shown, firstSpot, openBoth, onHashes, onParty, onLast, onRest, onAll}
 
 -- ---- one place of two lists
 module _ (kind party : ℕ) (listed : Bool) (from size : ℕ) (one two : List ℕ) where
   wide : from + size - from ≡ size
   wide = omega arith
 
-  pub mark-equal : same (take (from + size - from) (drop from one)) (take (from + size - from) (drop from two)) ≡ true
-      → Marked kind party listed from size one two (record { kind = 0; party = party; listed = listed; from = from; length = size })
-  mark-equal e =
-      record {
-        party-is = refl;
-        listed-is = refl;
-        from-is = refl;
-        length-is = refl;
-        equal = λ z. same-eq (part one from size) (part two from size) (rw wide at e);
-        differ = λ n. absurd (n refl);
-      }
+  pub mark-equal : 1 ≤ kind → same (take (from + size - from) (drop from one)) (take (from + size - from) (drop from two)) ≡ true → {r : Spot} → r ≡ nowhere
+      → Marked kind party listed from size one two r
+  mark-equal h e z = record { least = h; is = z ∙ sym (pick-true _ _ _ (rw wide at e)) }
 
   pub mark-differ : 1 ≤ kind → same (take (from + size - from) (drop from one)) (take (from + size - from) (drop from two)) ≡ false
-      → Marked kind party listed from size one two (record { kind = kind; party = party; listed = listed; from = from; length = size })
-  mark-differ h e =
-      record {
-        party-is = refl;
-        listed-is = refl;
-        from-is = refl;
-        length-is = refl;
-        equal = λ z. absurd (omega arith);
-        differ = λ n. (refl, rw wide at e);
-      }
+      → Marked kind party listed from size one two (at kind party listed from size)
+  mark-differ h e = record { least = h; is = sym (pick-false _ _ _ (rw wide at e)) }
 
 -- ---- a party open in both
 pub closed-one : (h1 h2 i : ℕ) → i ≡ h1 → false ≡ openBoth h1 h2 i
@@ -79,99 +62,104 @@ open-facts h1 h2 i e =
     not-not : {t : Bool} → not t ≡ true → t ≡ false
     not-not {t} e = not-true t e
 
--- ---- the first comparison that finds two inputs different
-first-append : (e : ℕ) (a b : List Comparison) (x : Reading) → firstDifferent e (a ++ b) x ≡ firstDifferent e a (firstDifferent e b x)
-unfolding firstDifferent
-first-append e [] b x = refl
-first-append e (c ∷ a) b x =
-    ap (λ (r : Reading). pick (same (c .one) (c .two)) r (collision (c .kind) e (c .party) (c .one) (c .two))) (first-append e a b x)
-
--- no comparison of c finds a difference
-abbrev pub Equal : List Comparison → Type 0
-Equal c = (e : ℕ) (x : Reading) → firstDifferent e c x ≡ x
-
-pub spots-none : (l m x y : List ℕ) → Spots [] l m x y (record { kind = 0; party = 0; listed = false; from = 0; length = 0 })
-unfolding firstDifferent
-spots-none l m x y =
+-- ---- the first spot at which the lists differ
+pub spots-none : {r : Spot} → r ≡ nowhere → (l m x y : List ℕ) → Spots [] l m x y r
+unfolding firstSpot
+spots-none {r} z l m x y =
     record {
-      none = λ z e r. refl;
-      some = λ n e r. absurd (n refl);
-      inside = record { within = omega arith; short = omega arith };
+      is = z;
+      equal = λ _. tt;
+      inside = subst (λ (s : Spot). Inside (length l) (length x) s) (sym z) (record { within = omega arith; short = omega arith });
     }
 
 module _ (l1 l2 i1 i2 : List ℕ) where
-  abbrev S : List Comparison → Spot → Type 0
-  S c r = Spots c l1 l2 i1 i2 r
+  abbrev S : List Spot → Spot → Type 0
+  S ss r = Spots ss l1 l2 i1 i2 r
+
+  abbrev F : List Spot → Spot
+  F ss = firstSpot ss l1 l2 i1 i2
+
+  abbrev E : List Spot → Type 0
+  E ss = Equal ss l1 l2 i1 i2
+
+  both : (a b : List Spot) → E a → E b → E (a ++ b)
+  both [] b x y = y
+  both (r ∷ a) b x y = (x .0, both a b (x .1) y)
+
+  passes : (a b : List Spot) → E a → F (a ++ b) ≡ F b
+  unfolding firstSpot
+  passes [] b x = refl
+  passes (r ∷ a) b x = pick-true _ _ _ (x .0) ∙ passes a b (x .1)
+
+  hits : (a b : List Spot) → (F a .kind ≡ 0 → ⊥) → F (a ++ b) ≡ F a
+  unfolding firstSpot
+  hits [] b n = absurd (n refl)
+  hits (r ∷ a) b n = go (hits a b) (same (shown r l1 i1) (shown r l2 i2)) n
+    where
+      go : ((F a .kind ≡ 0 → ⊥) → F (a ++ b) ≡ F a) → (t : Bool) → ((pick t (F a) r) .kind ≡ 0 → ⊥) → pick t (F (a ++ b)) r ≡ pick t (F a) r
+      go ih true n = ih n
+      go ih false n = refl
 
   -- Where the first list finds a difference, the joined list finds it; where it finds none, the second list decides.
-  pub stops : (a b : List Comparison) {r : Spot} → S a r → (r .kind ≡ 0 → ⊥) → S (a ++ b) r
+  pub stops : (a b : List Spot) {r : Spot} → S a r → (r .kind ≡ 0 → ⊥) → S (a ++ b) r
   stops a b {r} s n =
       record {
-        none = λ z. absurd (n z);
-        some = λ z e x. first-append e a b x ∙ s .some n e (firstDifferent e b x);
+        is = s .is ∙ sym (hits a b (λ z. n (ap (λ (x : Spot). x .kind) (s .is) ∙ z)));
+        equal = λ z. absurd (n z);
         inside = s .inside;
       }
 
-  follows : (a b : List Comparison) {r : Spot} → Equal a → S b r → S (a ++ b) r
-  follows a b {r} h t =
+  follows : (a b : List Spot) {r : Spot} → E a → S b r → S (a ++ b) r
+  follows a b {r} h t = record { is = t .is ∙ sym (passes a b h); equal = λ z. both a b h (t .equal z); inside = t .inside }
+
+  pub more : (a b : List Spot) {s r : Spot} → S a s → s .kind ≡ 0 → S b r → S (a ++ b) r
+  more a b h z t = follows a b (h .equal z) t
+
+  -- One spot.
+  pub one : (kind party : ℕ) (listed : Bool) (from size : ℕ) {r : Spot} → Marked kind party listed from size (pick listed l1 i1) (pick listed l2 i2) r
+      → from + size ≤ pick listed (length l1) (length i1) → size ≤ 16400 → S (at kind party listed from size ∷ []) r
+  unfolding firstSpot
+  one kind party listed from size {r} m h k =
       record {
-        none = λ y e x. first-append e a b x ∙ h e (firstDifferent e b x) ∙ t .none y e x;
-        some = λ y e x. first-append e a b x ∙ h e (firstDifferent e b x) ∙ t .some y e x;
-        inside = t .inside;
+        is = m .is;
+        equal = λ z. (go t refl z, tt);
+        inside = subst (λ (s : Spot). Inside (length l1) (length i1) s) (sym (m .is)) (in-list t);
       }
+    where
+      t : Bool
+      t = same (part (pick listed l1 i1) from size) (part (pick listed l2 i2) from size)
 
-  pub more : (a b : List Comparison) {s r : Spot} → S a s → s .kind ≡ 0 → S b r → S (a ++ b) r
-  more a b h z t = follows a b (h .none z) t
+      go : (u : Bool) → t ≡ u → r .kind ≡ 0 → t ≡ true
+      go true e z = e
+      go false e z =
+          let w : kind ≡ 0 = sym (ap (λ (s : Spot). s .kind) (m .is ∙ pick-false _ _ _ e)) ∙ z in
+          absurd (omega (arith, w, m .least))
 
-  -- One comparison, in the lists of the list hashes or in those of the execution.
-  pub one-listed : (kind party from size : ℕ) {r : Spot} → Marked kind party true from size l1 l2 r → from + size ≤ length l1 → size ≤ 16400
-      → S (at kind party from size l1 l2 ∷ []) r
-  unfolding firstDifferent
-  one-listed kind party from size {r} m h k =
-      record {
-        none = λ z e x. pick-true _ _ _ (same-of (m .equal z));
-        some = λ n e x. pick-false _ _ _ (m .differ n .1) ∙ rw (m .party-is, m .listed-is, m .from-is, m .length-is, m .differ n .0);
-        inside = record { within = rw (m .listed-is, m .from-is, m .length-is) h; short = rw (m .length-is) k };
-      }
+      in-list : (u : Bool) → Inside (length l1) (length i1) (pick u nowhere (at kind party listed from size))
+      in-list true = record { within = omega arith; short = omega arith }
+      in-list false = record { within = h; short = k }
 
-  pub one-held : (kind party from size : ℕ) {r : Spot} → Marked kind party false from size i1 i2 r → from + size ≤ length i1 → size ≤ 16400
-      → S (at kind party from size i1 i2 ∷ []) r
-  unfolding firstDifferent
-  one-held kind party from size {r} m h k =
-      record {
-        none = λ z e x. pick-true _ _ _ (same-of (m .equal z));
-        some = λ n e x. pick-false _ _ _ (m .differ n .1) ∙ rw (m .party-is, m .listed-is, m .from-is, m .length-is, m .differ n .0);
-        inside = record { within = rw (m .listed-is, m .from-is, m .length-is) h; short = rw (m .length-is) k };
-      }
-
-  -- ---- comparisons of each index in turn
-  module _ (f : ℕ → List Comparison) where
-    pub cat-next : (i : ℕ) {s : Spot} → Equal (cat i f) → S (f i) s → s .kind ≡ 0 → Equal (cat (i + 1) f)
+  -- ---- spots of each index in turn
+  module _ (f : ℕ → List Spot) where
+    pub cat-next : (i : ℕ) {s : Spot} → E (cat i f) → S (f i) s → s .kind ≡ 0 → E (cat (i + 1) f)
     unfolding cat
-    cat-next i h t z e x =
-        ap (λ (j : ℕ). firstDifferent e (cat j f) x) (add-one i) ∙ first-append e (cat i f) (f i) x ∙ h e _ ∙ t .none z e x
+    cat-next i h t z = subst (λ (j : ℕ). E (cat j f)) (sym (add-one i)) (both (cat i f) (f i) h (t .equal z))
 
-    pub cat-stops : (n i : ℕ) {r : Spot} → i < n → Equal (cat i f) → S (f i) r → (r .kind ≡ 0 → ⊥) → S (cat n f) r
+    pub cat-stops : (n i : ℕ) {r : Spot} → i < n → E (cat i f) → S (f i) r → (r .kind ≡ 0 → ⊥) → S (cat n f) r
     unfolding cat
     cat-stops zero i h a t z = absurd (not-suc-le-zero h)
     cat-stops (suc n) i {r} h a t z = go (cat-stops n i) (eq-or-lt-of-le (le-of-suc-le-suc h))
       where
-        go : (i < n → Equal (cat i f) → S (f i) r → (r .kind ≡ 0 → ⊥) → S (cat n f) r) → (i ≡ n) ⊎ (i < n) → S (cat n f ++ f n) r
-        go ih (inl q) = follows (cat n f) (f n) (subst (λ (j : ℕ). Equal (cat j f)) q a) (subst (λ (j : ℕ). S (f j) r) q t)
+        go : (i < n → E (cat i f) → S (f i) r → (r .kind ≡ 0 → ⊥) → S (cat n f) r) → (i ≡ n) ⊎ (i < n) → S (cat n f ++ f n) r
+        go ih (inl q) = follows (cat n f) (f n) (subst (λ (j : ℕ). E (cat j f)) q a) (subst (λ (j : ℕ). S (f j) r) q t)
         go ih (inr l) = stops (cat n f) (f n) (ih l a t z) z
 
-    pub cat-done : (n : ℕ) {r : Spot} → Equal (cat n f) → S [] r → S (cat n f) r
-    unfolding firstDifferent
-    cat-done n a t =
-        record {
-          none = λ z e x. a e x;
-          some = λ z e x. a e x ∙ t .some z e x;
-          inside = t .inside;
-        }
+    pub cat-done : (n : ℕ) {r : Spot} → E (cat n f) → S [] r → S (cat n f) r
+    cat-done n {r} a t = subst (λ (ss : List Spot). S ss r) (append-nil (cat n f)) (follows (cat n f) [] a t)
 
-pub cat-start : (f : ℕ → List Comparison) → Equal (cat 0 f)
-unfolding cat firstDifferent
-cat-start f e x = refl
+    pub cat-start : E (cat 0 f)
+    unfolding cat
+    cat-start = tt
 
 -- ---- the groups
 module _ (k : Numbers) (limits : Limits k) where
@@ -192,48 +180,48 @@ module _ (k : Numbers) (limits : Limits k) where
   grid-most = mul-le-mul {n₁ = 4 * k .m} {m₁ = k .parties} {n₂ = 512} {m₂ = 32} (omega (arith, limits .m-most)) (limits .N-most)
 
   module _ (l1 l2 i1 i2 : List ℕ) (long-l : length l1 ≡ listsSize M c) (long-i : length i1 ≡ executionSize m N) where
-    hashes : {s : Spot} → Marked 1 0 true 0 (32 * M) l1 l2 s → Spots (at 1 0 0 (32 * M) l1 l2 ∷ []) l1 l2 i1 i2 s
-    hashes a = one-listed l1 l2 i1 i2 1 0 0 (32 * M) a (omega (arith, long-l)) (omega (arith, limits .M-most))
+    hashes : {s : Spot} → Marked 1 0 true 0 (32 * M) l1 l2 s → Spots (at 1 0 true 0 (32 * M) ∷ []) l1 l2 i1 i2 s
+    hashes a = one l1 l2 i1 i2 1 0 true 0 (32 * M) a (omega (arith, long-l)) (omega (arith, limits .M-most))
 
-    pub hashes-stop : {r : Spot} → Marked 1 0 true 0 (32 * M) l1 l2 r → (r .kind ≡ 0 → ⊥) → Spots (onHashes M N l1 l2 i1 i2) l1 l2 i1 i2 r
+    pub hashes-stop : {r : Spot} → Marked 1 0 true 0 (32 * M) l1 l2 r → (r .kind ≡ 0 → ⊥) → Spots (onHashes M N) l1 l2 i1 i2 r
     unfolding onHashes
-    hashes-stop a n = stops l1 l2 i1 i2 (at 1 0 0 (32 * M) l1 l2 ∷ []) (at 2 0 0 (32 * N) i1 i2 ∷ []) (hashes a) n
+    hashes-stop a n = stops l1 l2 i1 i2 (at 1 0 true 0 (32 * M) ∷ []) (at 2 0 false 0 (32 * N) ∷ []) (hashes a) n
 
     pub hashes-end : {s r : Spot} → Marked 1 0 true 0 (32 * M) l1 l2 s → s .kind ≡ 0 → Marked 2 0 false 0 (32 * N) i1 i2 r
-        → Spots (onHashes M N l1 l2 i1 i2) l1 l2 i1 i2 r
+        → Spots (onHashes M N) l1 l2 i1 i2 r
     unfolding onHashes
     hashes-end a z b =
-        more l1 l2 i1 i2 (at 1 0 0 (32 * M) l1 l2 ∷ []) (at 2 0 0 (32 * N) i1 i2 ∷ []) (hashes a) z
-        (one-held l1 l2 i1 i2 2 0 0 (32 * N) b (omega (arith, long-i)) (omega (arith, limits .N-most)))
+        more l1 l2 i1 i2 (at 1 0 true 0 (32 * M) ∷ []) (at 2 0 false 0 (32 * N) ∷ []) (hashes a) z
+        (one l1 l2 i1 i2 2 0 false 0 (32 * N) b (omega (arith, long-i)) (omega (arith, limits .N-most)))
 
     -- the last four, from each of them on
-    rest-5 : {s : Spot} → Marked 5 0 true (hπFrom M) (32 * c) l1 l2 s → Spots (at 5 0 (hπFrom M) (32 * c) l1 l2 ∷ []) l1 l2 i1 i2 s
-    rest-5 a = one-listed l1 l2 i1 i2 5 0 (hπFrom M) (32 * c) a (omega (arith, long-l)) (omega (arith, limits .M-most))
+    rest-5 : {s : Spot} → Marked 5 0 true (hπFrom M) (32 * c) l1 l2 s → Spots (at 5 0 true (hπFrom M) (32 * c) ∷ []) l1 l2 i1 i2 s
+    rest-5 a = one l1 l2 i1 i2 5 0 true (hπFrom M) (32 * c) a (omega (arith, long-l)) (omega (arith, limits .M-most))
 
     rest-6 : {s : Spot} → Marked 6 0 false (ΠFrom m N) (4 * m * N + 16) i1 i2 s
-        → Spots (at 6 0 (ΠFrom m N) (4 * m * N + 16) i1 i2 ∷ []) l1 l2 i1 i2 s
-    rest-6 a = one-held l1 l2 i1 i2 6 0 (ΠFrom m N) (4 * m * N + 16) a (omega (arith, long-i)) (omega (arith, grid-most))
+        → Spots (at 6 0 false (ΠFrom m N) (4 * m * N + 16) ∷ []) l1 l2 i1 i2 s
+    rest-6 a = one l1 l2 i1 i2 6 0 false (ΠFrom m N) (4 * m * N + 16) a (omega (arith, long-i)) (omega (arith, grid-most))
 
-    rest-7 : {s : Spot} → Marked 7 0 true (hψFrom M c) (32 * c) l1 l2 s → Spots (at 7 0 (hψFrom M c) (32 * c) l1 l2 ∷ []) l1 l2 i1 i2 s
-    rest-7 a = one-listed l1 l2 i1 i2 7 0 (hψFrom M c) (32 * c) a (omega (arith, long-l)) (omega (arith, limits .M-most))
+    rest-7 : {s : Spot} → Marked 7 0 true (hψFrom M c) (32 * c) l1 l2 s → Spots (at 7 0 true (hψFrom M c) (32 * c) ∷ []) l1 l2 i1 i2 s
+    rest-7 a = one l1 l2 i1 i2 7 0 true (hψFrom M c) (32 * c) a (omega (arith, long-l)) (omega (arith, limits .M-most))
 
-    rest-8 : {s : Spot} → Marked 8 0 false (ΨFrom m N) (4 * N + 16) i1 i2 s → Spots (at 8 0 (ΨFrom m N) (4 * N + 16) i1 i2 ∷ []) l1 l2 i1 i2 s
-    rest-8 a = one-held l1 l2 i1 i2 8 0 (ΨFrom m N) (4 * N + 16) a (omega (arith, long-i)) (omega (arith, limits .N-most))
+    rest-8 : {s : Spot} → Marked 8 0 false (ΨFrom m N) (4 * N + 16) i1 i2 s → Spots (at 8 0 false (ΨFrom m N) (4 * N + 16) ∷ []) l1 l2 i1 i2 s
+    rest-8 a = one l1 l2 i1 i2 8 0 false (ΨFrom m N) (4 * N + 16) a (omega (arith, long-i)) (omega (arith, limits .N-most))
 
-    abbrev c5 : List Comparison
-    c5 = at 5 0 (hπFrom M) (32 * c) l1 l2 ∷ []
+    abbrev c5 : List Spot
+    c5 = at 5 0 true (hπFrom M) (32 * c) ∷ []
 
-    abbrev c6 : List Comparison
-    c6 = at 6 0 (ΠFrom m N) (4 * m * N + 16) i1 i2 ∷ []
+    abbrev c6 : List Spot
+    c6 = at 6 0 false (ΠFrom m N) (4 * m * N + 16) ∷ []
 
-    abbrev c7 : List Comparison
-    c7 = at 7 0 (hψFrom M c) (32 * c) l1 l2 ∷ []
+    abbrev c7 : List Spot
+    c7 = at 7 0 true (hψFrom M c) (32 * c) ∷ []
 
-    abbrev c8 : List Comparison
-    c8 = at 8 0 (ΨFrom m N) (4 * N + 16) i1 i2 ∷ []
+    abbrev c8 : List Spot
+    c8 = at 8 0 false (ΨFrom m N) (4 * N + 16) ∷ []
 
     abbrev Rest : Spot → Type 0
-    Rest r = Spots (onRest m N M c l1 l2 i1 i2) l1 l2 i1 i2 r
+    Rest r = Spots (onRest m N M c) l1 l2 i1 i2 r
 
     pub rest-stop : {r : Spot} → Marked 5 0 true (hπFrom M) (32 * c) l1 l2 r → (r .kind ≡ 0 → ⊥) → Rest r
     unfolding onRest
@@ -264,7 +252,7 @@ module _ (k : Numbers) (limits : Limits k) where
   -- Γ(i) and Ω
   module _ (h1 h2 : ℕ) (i1 i2 : List ℕ) (long-i : length i1 ≡ executionSize m N) (l1 l2 : List ℕ) where
     abbrev Party : ℕ → Spot → Type 0
-    Party i r = Spots (onParty m N h1 h2 i1 i2 i) l1 l2 i1 i2 r
+    Party i r = Spots (onParty m N h1 h2 i) l1 l2 i1 i2 r
 
     pub party-closed : (i : ℕ) {r : Spot} → openBoth h1 h2 i ≡ false → Spots [] l1 l2 i1 i2 r → Party i r
     unfolding onParty
@@ -275,44 +263,44 @@ module _ (k : Numbers) (limits : Limits k) where
     unfolding onParty
     party-last i below o e a =
         rw (o, eq-eqb (suc i) N (sym (add-one i) ∙ e), ← add-one i)
-        (one-held l1 l2 i1 i2 3 (i + 1) (32 * N + 32 * i) (32 + 4 * m) a (omega (arith, long-i)) (omega (arith, limits .m-most)))
+        (one l1 l2 i1 i2 3 (i + 1) false (32 * N + 32 * i) (32 + 4 * m) a (omega (arith, long-i)) (omega (arith, limits .m-most)))
 
     pub party-other : (i : ℕ) {r : Spot} → i < N → openBoth h1 h2 i ≡ true → (i + 1 ≡ N → ⊥)
         → Marked 3 (i + 1) false (32 * N + 32 * i) 32 i1 i2 r → Party i r
     unfolding onParty
     party-other i below o n a =
         rw (o, ne-eqb (suc i) N (λ z. n (add-one i ∙ z)), ← add-one i)
-        (one-held l1 l2 i1 i2 3 (i + 1) (32 * N + 32 * i) (32 + 0) a (omega (arith, long-i)) (omega arith))
+        (one l1 l2 i1 i2 3 (i + 1) false (32 * N + 32 * i) (32 + 0) a (omega (arith, long-i)) (omega arith))
 
-    pub last-closed : {r : Spot} → openBoth h1 h2 (N - 1) ≡ false → Spots [] l1 l2 i1 i2 r → Spots (onLast m N h1 h2 i1 i2) l1 l2 i1 i2 r
+    pub last-closed : {r : Spot} → openBoth h1 h2 (N - 1) ≡ false → Spots [] l1 l2 i1 i2 r → Spots (onLast m N h1 h2) l1 l2 i1 i2 r
     unfolding onLast
     last-closed e s = rw e s
 
     pub last-open : {r : Spot} → openBoth h1 h2 (N - 1) ≡ true → Marked 4 N false (ΩFrom m N) (4 * m + 16) i1 i2 r
-        → Spots (onLast m N h1 h2 i1 i2) l1 l2 i1 i2 r
+        → Spots (onLast m N h1 h2) l1 l2 i1 i2 r
     unfolding onLast
     last-open o a =
-        rw o (one-held l1 l2 i1 i2 4 N (ΩFrom m N) (4 * m + 16) a (omega (arith, long-i)) (omega (arith, limits .m-most)))
+        rw o (one l1 l2 i1 i2 4 N false (ΩFrom m N) (4 * m + 16) a (omega (arith, long-i)) (omega (arith, limits .m-most)))
 
 -- ---- all groups
 module _ (m N M c h1 h2 : ℕ) (l1 l2 i1 i2 : List ℕ) where
-  abbrev gH : List Comparison
-  gH = onHashes M N l1 l2 i1 i2
+  abbrev gH : List Spot
+  gH = onHashes M N
 
-  abbrev gP : List Comparison
-  gP = cat N (onParty m N h1 h2 i1 i2)
+  abbrev gP : List Spot
+  gP = cat N (onParty m N h1 h2)
 
-  abbrev gL : List Comparison
-  gL = onLast m N h1 h2 i1 i2
+  abbrev gL : List Spot
+  gL = onLast m N h1 h2
 
-  abbrev gR : List Comparison
-  gR = onRest m N M c l1 l2 i1 i2
+  abbrev gR : List Spot
+  gR = onRest m N M c
 
-  abbrev G : List Comparison → Spot → Type 0
+  abbrev G : List Spot → Spot → Type 0
   G a r = Spots a l1 l2 i1 i2 r
 
   abbrev All : Spot → Type 0
-  All r = G (onAll m N M c h1 h2 l1 l2 i1 i2) r
+  All r = G (onAll m N M c h1 h2) r
 
   pub all-stop : {r : Spot} → G gH r → (r .kind ≡ 0 → ⊥) → All r
   unfolding onAll
@@ -331,6 +319,54 @@ module _ (m N M c h1 h2 : ℕ) (l1 l2 i1 i2 : List ℕ) where
   unfolding onAll
   all-end a z b y d x g =
       more l1 l2 i1 i2 gH (gP ++ (gL ++ gR)) a z (more l1 l2 i1 i2 gP (gL ++ gR) b y (more l1 l2 i1 i2 gL gR d x g))
+
+-- ---- spots as comparisons
+module _ (l1 l2 i1 i2 : List ℕ) where
+  unfoldable pub compared : List Spot → List Comparison
+  compared [] = []
+  compared (r ∷ rs) = compare (r .kind) (r .party) (shown r l1 i1) (shown r l2 i2) ∷ compared rs
+
+  compared-append : (a b : List Spot) → compared (a ++ b) ≡ compared a ++ compared b
+  unfolding compared
+  compared-append [] b = refl
+  compared-append (r ∷ a) b = ap (λ (x : List Comparison). compare (r .kind) (r .party) (shown r l1 i1) (shown r l2 i2) ∷ x) (compared-append a b)
+
+  compared-cat : (n : ℕ) (f : ℕ → List Spot) → compared (cat n f) ≡ cat n (λ i. compared (f i))
+  unfolding compared cat
+  compared-cat zero f = refl
+  compared-cat (suc n) f = compared-append (cat n f) (f n) ∙ ap (λ (x : List Comparison). x ++ compared (f n)) (compared-cat n f)
+
+  -- all of them, group by group
+  pub compared-all : (m N M c h1 h2 : ℕ)
+      → compared (onAll m N M c h1 h2)
+      ≡ compared (onHashes M N) ++ (cat N (λ i. compared (onParty m N h1 h2 i)) ++ (compared (onLast m N h1 h2) ++ compared (onRest m N M c)))
+  unfolding onAll
+  compared-all m N M c h1 h2 =
+      compared-append (onHashes M N) (cat N (onParty m N h1 h2) ++ (onLast m N h1 h2 ++ onRest m N M c))
+      ∙ ap (λ (x : List Comparison). compared (onHashes M N) ++ x)
+      (compared-append (cat N (onParty m N h1 h2)) (onLast m N h1 h2 ++ onRest m N M c)
+      ∙ ap₂ (λ (x y : List Comparison). x ++ y) (compared-cat N (onParty m N h1 h2)) (compared-append (onLast m N h1 h2) (onRest m N M c)))
+
+  pub reads-equal : (ss : List Spot) → Equal ss l1 l2 i1 i2 → (e : ℕ) (x : Reading) → firstDifferent e (compared ss) x ≡ x
+  unfolding compared firstDifferent
+  reads-equal [] h e x = refl
+  reads-equal (r ∷ ss) h e x = pick-true _ _ _ (h .0) ∙ reads-equal ss (h .1) e x
+
+  -- what a spot's two inputs give
+  abbrev reading : ℕ → Spot → Reading
+  reading e r = collision (r .kind) e (r .party) (shown r l1 i1) (shown r l2 i2)
+
+  pub reads-first : (ss : List Spot) → (firstSpot ss l1 l2 i1 i2 .kind ≡ 0 → ⊥) → (e : ℕ) (x : Reading)
+      → firstDifferent e (compared ss) x ≡ reading e (firstSpot ss l1 l2 i1 i2)
+  unfolding compared firstDifferent firstSpot
+  reads-first [] n e x = absurd (n refl)
+  reads-first (r ∷ ss) n e x = go (reads-first ss) (same (shown r l1 i1) (shown r l2 i2)) n
+    where
+      go : ((firstSpot ss l1 l2 i1 i2 .kind ≡ 0 → ⊥) → (e : ℕ) (x : Reading) → firstDifferent e (compared ss) x ≡ reading e (firstSpot ss l1 l2 i1 i2))
+          → (t : Bool) → ((pick t (firstSpot ss l1 l2 i1 i2) r) .kind ≡ 0 → ⊥)
+          → pick t (firstDifferent e (compared ss) x) (reading e r) ≡ reading e (pick t (firstSpot ss l1 l2 i1 i2) r)
+      go ih true n = ih n e x
+      go ih false n = refl
 
 -- ---- the pair reader's list
 module _ (K : Key) (P R : Parts) (e h1 h2 : ℕ) (l1 l2 i1 i2 : List ℕ) (L1 : Listed K P l1) (L2 : Listed K R l2)
@@ -358,13 +394,13 @@ module _ (K : Key) (P R : Parts) (e h1 h2 : ℕ) (l1 l2 i1 i2 : List ℕ) (L1 : 
 
   party-is : (i : ℕ) → i < K .N
       → pick (openInBoth K P R e i) (compare 3 (suc i) (Γin K (view K P e) i) (Γin K (view K R e) i) ∷ []) []
-      ≡ onParty (K .m) (K .N) h1 h2 i1 i2 i
-  unfolding onParty
+      ≡ compared l1 l2 i1 i2 (onParty (K .m) (K .N) h1 h2 i)
+  unfolding onParty compared
   party-is i b = rw (open-is i) (go (openBoth h1 h2 i) refl)
     where
       go : (t : Bool) → openBoth h1 h2 i ≡ t
           → _≡_ {A = List Comparison} (pick t (compare 3 (suc i) (Γin K (view K P e) i) (Γin K (view K R e) i) ∷ []) [])
-          (pick t (at 3 (suc i) (ΓFrom (K .N) i) (ΓSize (K .m) (K .N) i) i1 i2 ∷ []) [])
+          (compared l1 l2 i1 i2 (pick t (at 3 (suc i) false (ΓFrom (K .N) i) (ΓSize (K .m) (K .N) i) ∷ []) []))
       go true o =
           let f = open-facts h1 h2 i o in
           sym (ap₂ (λ (x y : List ℕ). compare 3 (suc i) x y ∷ []) (Γ-one i b (f .0)) (Γ-two i b (f .1)))
@@ -372,8 +408,8 @@ module _ (K : Key) (P R : Parts) (e h1 h2 : ℕ) (l1 l2 i1 i2 : List ℕ) (L1 : 
 
   last-is : 2 ≤ K .N
       → pick (openInBoth K P R e (K .N - 1)) (compare 4 (K .N) (Ωin K (view K P e)) (Ωin K (view K R e)) ∷ []) []
-      ≡ onLast (K .m) (K .N) h1 h2 i1 i2
-  unfolding onLast keptView hidden
+      ≡ compared l1 l2 i1 i2 (onLast (K .m) (K .N) h1 h2)
+  unfolding onLast compared keptView hidden
   last-is two = rw (open-is (K .N - 1)) (go (openBoth h1 h2 (K .N - 1)) refl)
     where
       Ω-one : (K .N - 1 ≡ h1 → ⊥) → part i1 (ΩFrom (K .m) (K .N)) (4 * K .m + 16) ≡ Ωin K (view K P e)
@@ -390,7 +426,7 @@ module _ (K : Key) (P R : Parts) (e h1 h2 : ℕ) (l1 l2 i1 i2 : List ℕ) (L1 : 
 
       go : (t : Bool) → openBoth h1 h2 (K .N - 1) ≡ t
           → _≡_ {A = List Comparison} (pick t (compare 4 (K .N) (Ωin K (view K P e)) (Ωin K (view K R e)) ∷ []) [])
-          (pick t (at 4 (K .N) (ΩFrom (K .m) (K .N)) (4 * K .m + 16) i1 i2 ∷ []) [])
+          (compared l1 l2 i1 i2 (pick t (at 4 (K .N) false (ΩFrom (K .m) (K .N)) (4 * K .m + 16) ∷ []) []))
       go true o =
           let f = open-facts h1 h2 (K .N - 1) o in
           sym (ap₂ (λ (x y : List ℕ). compare 4 (K .N) x y ∷ []) (Ω-one (f .0)) (Ω-two (f .1)))
@@ -403,8 +439,8 @@ module _ (K : Key) (P R : Parts) (e h1 h2 : ℕ) (l1 l2 i1 i2 : List ℕ) (L1 : 
   abbrev lastOf : List Comparison
   lastOf = pick (openInBoth K P R e (K .N - 1)) (compare 4 (K .N) (Ωin K (view K P e)) (Ωin K (view K R e)) ∷ []) []
 
-  laid : 2 ≤ K .N → comparisons K P R e ≡ onAll (K .m) (K .N) (K .M) (keptCount K) h1 h2 l1 l2 i1 i2
-  unfolding comparisons onAll onHashes onRest
+  laid : 2 ≤ K .N → comparisons K P R e ≡ compared l1 l2 i1 i2 (onAll (K .m) (K .N) (K .M) (keptCount K) h1 h2)
+  unfolding comparisons onHashes onRest compared
   laid two =
       append-assoc
       (compare 1 0 (hΓin K (view K P)) (hΓin K (view K R)) ∷ compare 2 0 (hin K (view K P e)) (hin K (view K R e)) ∷ cat (K .N) partiesOf)
@@ -424,6 +460,7 @@ module _ (K : Key) (P R : Parts) (e h1 h2 : ℕ) (l1 l2 i1 i2 : List ℕ) (L1 : 
       ∷ compare 7 0 (sym (L1 .hψ) j) (sym (L2 .hψ) j)
       ∷ compare 8 0 (Ψ-one j) (Ψ-two j)
       ∷ []))))
+      ∙ sym (compared-all l1 l2 i1 i2 (K .m) (K .N) (K .M) (keptCount K) h1 h2)
     where
       h-one : hin K (view K P e) ≡ part i1 0 (32 * K .N)
       h-one = ap (λ (v : View). hin K v) v-is ∙ sym (W1 .h)
@@ -444,31 +481,41 @@ module _ (K : Key) (P R : Parts) (e h1 h2 : ℕ) (l1 l2 i1 i2 : List ℕ) (L1 : 
       Ψ-two = ap (λ (v : View). Ψin K v (κ K R) (R .p4)) w-is ∙ sym (W2 .Ψ)
 
   pub spotted : (k : Numbers) → Limits k → Of k K → {r : Spot}
-      → Spots (onAll (k .m) (k .parties) (k .executions) (k .executions - k .opened) h1 h2 l1 l2 i1 i2) l1 l2 i1 i2 r
+      → Spots (onAll (k .m) (k .parties) (k .executions) (k .executions - k .opened) h1 h2) l1 l2 i1 i2 r
       → Spotted K P R e r l1 l2 i1 i2
   spotted k limits of {r} s =
       record {
-        none = λ z x. ap (λ (a : List Comparison). firstDifferent (suc e) a x) is ∙ s .none z (suc e) x;
-        some = λ n x. ap (λ (a : List Comparison). firstDifferent (suc e) a x) is ∙ s .some n (suc e) x;
+        none = λ z x. ap (λ (a : List Comparison). firstDifferent (suc e) a x) is ∙ reads-equal l1 l2 i1 i2 all (s .equal z) (suc e) x;
+        some = λ n x.
+            ap (λ (a : List Comparison). firstDifferent (suc e) a x) is
+            ∙ subst (λ (q : Spot). firstDifferent (suc e) (compared l1 l2 i1 i2 all) x ≡ reading l1 l2 i1 i2 (suc e) q) (sym (s .is))
+            (reads-first l1 l2 i1 i2 all (λ z. n (ap (λ (q : Spot). q .kind) (s .is) ∙ z)) (suc e) x);
       }
     where
-      is : comparisons K P R e ≡ onAll (k .m) (k .parties) (k .executions) (k .executions - k .opened) h1 h2 l1 l2 i1 i2
+      all : List Spot
+      all = onAll (k .m) (k .parties) (k .executions) (k .executions - k .opened) h1 h2
+
+      is : comparisons K P R e ≡ compared l1 l2 i1 i2 all
       is =
           laid (omega (arith, limits .N-least, of .N-is))
-          ∙ sym (λ j. onAll (of .m-is j) (of .N-is j) (of .M-is j) (of .M-is j - of .τ-is j) h1 h2 l1 l2 i1 i2)
+          ∙ sym (λ j. compared l1 l2 i1 i2 (onAll (of .m-is j) (of .N-is j) (of .M-is j) (of .M-is j - of .τ-is j) h1 h2))
 
--- Both answers of the crate's function.
+-- The answers of the crate's function.
 pub answered : (k : Numbers) (h1 h2 : ℕ) (l1 l2 i1 i2 : List ℕ) → Limits k
     → length l1 ≡ listsSize (k .executions) (k .executions - k .opened) → length i1 ≡ executionSize (k .m) (k .parties) → {r : Spot}
-    → Spots (onAll (k .m) (k .parties) (k .executions) (k .executions - k .opened) h1 h2 l1 l2 i1 i2) l1 l2 i1 i2 r
+    → Spots (onAll (k .m) (k .parties) (k .executions) (k .executions - k .opened) h1 h2) l1 l2 i1 i2 r
     → ((K : Key) (P R : Parts) (e : ℕ) → Of k K → Listed K P l1 → Listed K R l2 → Written K (keptView K P e) (κ K P) (P .p4) i1
     → Written K (keptView K R e) (κ K R) (R .p4) i2 → hidden K P e ≡ h1 → hidden K R e ≡ h2 → opened (P .p2) e ≡ false
     → opened (R .p2) e ≡ false → Spotted K P R e r l1 l2 i1 i2
-    ) × Inside (listsSize (k .executions) (k .executions - k .opened)) (executionSize (k .m) (k .parties)) r
+    ) × (Inside (listsSize (k .executions) (k .executions - k .opened)) (executionSize (k .m) (k .parties)) r
+    × (r ≡ firstSpot (onAll (k .m) (k .parties) (k .executions) (k .executions - k .opened) h1 h2) l1 l2 i1 i2))
 answered k h1 h2 l1 l2 i1 i2 limits long-l long-i {r} s = (
   λ K P R e of L1 L2 W1 W2 hid1 hid2 kept1 kept2. spotted K P R e h1 h2 l1 l2 i1 i2 L1 L2 W1 W2 hid1 hid2 kept1 kept2 k limits of s,
-  record {
-    within = subst (λ (n : ℕ). r .from + r .length ≤ n) (ap₂ (λ (a b : ℕ). pick (r .listed) a b) long-l long-i) (s .inside .within);
-    short = s .inside .short;
-  },
+  (
+    record {
+      within = subst (λ (n : ℕ). r .from + r .length ≤ n) (ap₂ (λ (a b : ℕ). pick (r .listed) a b) long-l long-i) (s .inside .within);
+      short = s .inside .short;
+    },
+    s .is,
+  ),
 )

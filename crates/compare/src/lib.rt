@@ -4,7 +4,7 @@ use bytes4::same_bytes;
 use key::Numbers;
 ghost use mathlib.Core.Path.{_≡_};
 ghost use mathlib.Core.Bool.{false};
-ghost use mathlib.Core.List.{List, []};
+ghost use mathlib.Core.List.{List};
 ghost use Prim.Native.Nat.{ℕ, _+_, _*_, _-_, _≤_, _<_};
 ghost use lib.ListN.{length};
 ghost use Rattle.lists.specs.Index.{cat};
@@ -15,10 +15,10 @@ ghost use Rattle.protocol.specs.Judge.{hidden, κ, keptView};
 ghost use Rattle.key.specs.Numbers.{Of, Limits};
 ghost use Rattle.walk.specs.Lists.{Listed, listsSize};
 ghost use Rattle.inputs.specs.Layout.{Written, executionSize};
-ghost use Rattle.compare.specs.Spots.{Spotted, Inside, Spots, Marked, openBoth, onHashes, onParty, onLast, onRest};
+ghost use Rattle.compare.specs.Spots.{Spotted, Inside, Spots, Marked, nowhere, firstSpot, openBoth, onHashes, onParty, onLast, onRest, onAll};
 
 // Two inputs that differ: their kind, the party from 1 on (N for Ω, 0 where none), and where both begin and how long both are, in the
-// lists of the list hashes or in those of the execution. Where kind is 0, no two inputs differ.
+// lists of the list hashes or in those of the execution. Where no two inputs differ, each is 0 or false.
 pub struct Spot {
     pub kind: u32,
     pub party: usize,
@@ -27,7 +27,7 @@ pub struct Spot {
     pub length: usize,
 }
 
-// One place of two lists, with this kind where they differ there.
+// One place of two lists where they differ there, else nothing.
 fn compare_at(
     kind: u32,
     party: usize,
@@ -44,13 +44,7 @@ fn compare_at(
 {
     let to = from + size;
     if same_bytes(&one[from..to], &two[from..to]) {
-        return Spot {
-            kind: 0,
-            party,
-            listed,
-            from,
-            length: size,
-        };
+        return nothing();
     }
     Spot {
         kind,
@@ -76,7 +70,7 @@ fn open_in_both(hidden1: usize, hidden2: usize, i: usize) -> bool
 
 // No two inputs differ.
 fn nothing() -> Spot
-    ensures { λ r. ⌜ ((l m x y : List ℕ) → Spots [] l m x y r) ⌝ }
+    ensures { λ r. ⌜ r ≡ nowhere ⌝ }
 {
     Spot {
         kind: 0,
@@ -94,7 +88,7 @@ fn of_hashes(k: Numbers, lists1: &[u8], lists2: &[u8], inputs1: &[u8], inputs2: 
     requires { ⌜ length (now lists2) ≡ listsSize (k .executions) (k .executions - k .opened) ⌝ }
     requires { ⌜ length (now inputs1) ≡ executionSize (k .m) (k .parties) ⌝ }
     requires { ⌜ length (now inputs2) ≡ executionSize (k .m) (k .parties) ⌝ }
-    ensures { λ r. ⌜ Spots (onHashes (k .executions) (k .parties) (now (lists1 .entry)) (now (lists2 .entry)) (now (inputs1 .entry)) (now (inputs2 .entry))) (now (lists1 .entry)) (now (lists2 .entry)) (now (inputs1 .entry)) (now (inputs2 .entry)) r ⌝ }
+    ensures { λ r. ⌜ Spots (onHashes (k .executions) (k .parties)) (now (lists1 .entry)) (now (lists2 .entry)) (now (inputs1 .entry)) (now (inputs2 .entry)) r ⌝ }
 {
     let first = compare_at(1, 0, true, 0, 32 * k.executions, lists1, lists2);
     if first.kind != 0 {
@@ -116,7 +110,7 @@ fn of_party(
     requires { ⌜ length (now inputs1) ≡ executionSize (k .m) (k .parties) ⌝ }
     requires { ⌜ length (now inputs2) ≡ executionSize (k .m) (k .parties) ⌝ }
     requires { ⌜ i < k .parties ⌝ }
-    ensures { λ r. ⌜ ((l m : List ℕ) → Spots (onParty (k .m) (k .parties) hidden1 hidden2 (now (inputs1 .entry)) (now (inputs2 .entry)) i) l m (now (inputs1 .entry)) (now (inputs2 .entry)) r) ⌝ }
+    ensures { λ r. ⌜ ((l m : List ℕ) → Spots (onParty (k .m) (k .parties) hidden1 hidden2 i) l m (now (inputs1 .entry)) (now (inputs2 .entry)) r) ⌝ }
 {
     if !open_in_both(hidden1, hidden2, i) {
         return nothing();
@@ -133,7 +127,7 @@ fn of_parties(k: Numbers, hidden1: usize, hidden2: usize, inputs1: &[u8], inputs
     requires { ⌜ Limits k ⌝ }
     requires { ⌜ length (now inputs1) ≡ executionSize (k .m) (k .parties) ⌝ }
     requires { ⌜ length (now inputs2) ≡ executionSize (k .m) (k .parties) ⌝ }
-    ensures { λ r. ⌜ ((l m : List ℕ) → Spots (cat (k .parties) (onParty (k .m) (k .parties) hidden1 hidden2 (now (inputs1 .entry)) (now (inputs2 .entry)))) l m (now (inputs1 .entry)) (now (inputs2 .entry)) r) ⌝ }
+    ensures { λ r. ⌜ ((l m : List ℕ) → Spots (cat (k .parties) (onParty (k .m) (k .parties) hidden1 hidden2)) l m (now (inputs1 .entry)) (now (inputs2 .entry)) r) ⌝ }
 {
     let parties = k.parties;
     let mut i = 0;
@@ -152,7 +146,7 @@ fn of_last(k: Numbers, hidden1: usize, hidden2: usize, inputs1: &[u8], inputs2: 
     requires { ⌜ Limits k ⌝ }
     requires { ⌜ length (now inputs1) ≡ executionSize (k .m) (k .parties) ⌝ }
     requires { ⌜ length (now inputs2) ≡ executionSize (k .m) (k .parties) ⌝ }
-    ensures { λ r. ⌜ ((l m : List ℕ) → Spots (onLast (k .m) (k .parties) hidden1 hidden2 (now (inputs1 .entry)) (now (inputs2 .entry))) l m (now (inputs1 .entry)) (now (inputs2 .entry)) r) ⌝ }
+    ensures { λ r. ⌜ ((l m : List ℕ) → Spots (onLast (k .m) (k .parties) hidden1 hidden2) l m (now (inputs1 .entry)) (now (inputs2 .entry)) r) ⌝ }
 {
     let parties = k.parties;
     if !open_in_both(hidden1, hidden2, parties - 1) {
@@ -176,7 +170,7 @@ fn of_rest(k: Numbers, lists1: &[u8], lists2: &[u8], inputs1: &[u8], inputs2: &[
     requires { ⌜ length (now lists2) ≡ listsSize (k .executions) (k .executions - k .opened) ⌝ }
     requires { ⌜ length (now inputs1) ≡ executionSize (k .m) (k .parties) ⌝ }
     requires { ⌜ length (now inputs2) ≡ executionSize (k .m) (k .parties) ⌝ }
-    ensures { λ r. ⌜ Spots (onRest (k .m) (k .parties) (k .executions) (k .executions - k .opened) (now (lists1 .entry)) (now (lists2 .entry)) (now (inputs1 .entry)) (now (inputs2 .entry))) (now (lists1 .entry)) (now (lists2 .entry)) (now (inputs1 .entry)) (now (inputs2 .entry)) r ⌝ }
+    ensures { λ r. ⌜ Spots (onRest (k .m) (k .parties) (k .executions) (k .executions - k .opened)) (now (lists1 .entry)) (now (lists2 .entry)) (now (inputs1 .entry)) (now (inputs2 .entry)) r ⌝ }
 {
     let m = k.m;
     let parties = k.parties;
@@ -239,6 +233,7 @@ pub fn first_difference(
     requires { ⌜ length (now inputs2) ≡ executionSize (k .m) (k .parties) ⌝ }
     ensures { λ r. ⌜ ((K : Key) (P R : Parts) (e : ℕ) → Of k K → Listed K P (now (lists1 .entry)) → Listed K R (now (lists2 .entry)) → Written K (keptView K P e) (κ K P) (P .p4) (now (inputs1 .entry)) → Written K (keptView K R e) (κ K R) (R .p4) (now (inputs2 .entry)) → hidden K P e ≡ hidden1 → hidden K R e ≡ hidden2 → opened (P .p2) e ≡ false → opened (R .p2) e ≡ false → Spotted K P R e r (now (lists1 .entry)) (now (lists2 .entry)) (now (inputs1 .entry)) (now (inputs2 .entry))) ⌝ }
     ensures { λ r. ⌜ Inside (listsSize (k .executions) (k .executions - k .opened)) (executionSize (k .m) (k .parties)) r ⌝ }
+    ensures { λ r. ⌜ r ≡ firstSpot (onAll (k .m) (k .parties) (k .executions) (k .executions - k .opened) hidden1 hidden2) (now (lists1 .entry)) (now (lists2 .entry)) (now (inputs1 .entry)) (now (inputs2 .entry)) ⌝ }
 {
     let hashes = of_hashes(k, lists1, lists2, inputs1, inputs2);
     if hashes.kind != 0 {

@@ -257,6 +257,13 @@ module _ {q n m N D hid e : ℕ} {reply kappa seed entries : List ℕ} {K : Key}
             Ψ = ap₂ (λ (a b : ℕ). part (row hs gs os ps ws) (ΨFrom a b) (4 * b + 16)) em eN ∙ Ψ-part;
           }
 
+  -- the list itself
+  pub laid-out : {x : List ℕ} → x ≡ row hs gs os ps ws
+      → x ≡ row (input 2 (e + 1) 0 (cat N (gammaAt m N hid e (part reply (16 * D) 32) leaves work))) gs os ps ws
+  laid-out is =
+      let z : 16 * D + 32 - 16 * D ≡ 32 = omega arith in
+      is ∙ ap (λ (w : ℕ). row (input 2 (e + 1) 0 (cat N (gammaAt m N hid e (take w (drop (16 * D) reply)) leaves work))) gs os ps ws) z
+
 -- what stands from a place to the end
 pub rest-long : (x : List ℕ) (a n : ℕ) → a + n ≤ length x → n ≤ length (take (length x - a) (drop a x))
 rest-long x a n h = omega (arith, ap length (to-end x a), length-drop a x)

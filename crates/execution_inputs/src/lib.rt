@@ -4,7 +4,7 @@ ghost use mathlib.Core.Path.{_≡_};
 ghost use mathlib.Core.List.{_++_};
 ghost use Prim.Native.Nat.{_+_, _*_, _-_, _%_, _<_, _≤_};
 ghost use lib.ListN.{length, drop};
-ghost use Rattle.lists.specs.Index.{cat};
+ghost use Rattle.lists.specs.Index.{cat, part};
 ghost use Rattle.lists.specs.Tab.{tab};
 ghost use Rattle.lists.specs.Bytes.{nums, num};
 ghost use Rattle.numbers.specs.Inverse.{Member, Ns};
@@ -46,7 +46,7 @@ fn alpha_bytes(
 {
     let row = answers::alpha_row(q, m, parties, hidden, k, given, work);
     bytes4::put_numbers(&row[..parties], out);
-    numbers::reduced(answers::total(&row[..parties]), q)
+    numbers::reduced(answers::total(&row, parties), q)
 }
 
 // All α(k, i), i running fastest. The sums α(1) .. α(m) go to the front of `sums`.
@@ -343,6 +343,8 @@ pub fn write(
     requires { ⌜ length (now out) ≡ executionSize m parties ⌝ }
     ensures { λ _. ⌜ ((K : Key) (P : Parts) → KeptIn q n m parties depth hidden execution (now (reply .entry)) (now (kappa .entry)) (now (seed .entry)) (now (entries .entry)) K P → Written K (keptView K P execution) (κ K P) (P .p4) (now (out .exit))) ⌝ }
     ensures { λ _. ⌜ length (now (out .exit)) ≡ length (now (out .entry)) ⌝ }
+    ensures { λ _. ⌜ ((K : Key) (P : Parts) → KeptIn q n m parties depth hidden execution (now (reply .entry)) (now (kappa .entry)) (now (seed .entry)) (now (entries .entry)) K P
+        → now (out .exit) ≡ (input 2 (execution + 1) 0 (cat parties (gammaAt m parties hidden execution (part (now (reply .entry)) (16 * depth) 32) (now (leaves .entry)) (now (work .entry)))) ++ cat parties (gammaIn m parties execution (now (leaves .entry)) (now (work .entry)))) ++ (omegaIn m parties execution (now (leaves .entry)) (now (work .entry)) ++ (Πin K (keptView K P execution) (now (kappa .entry)) ++ Ψin K (keptView K P execution) (now (kappa .entry)) (now (seed .entry))))) ⌝ }
 {
     let seeds = 16 * depth;
     let numbers = seeds + 32;

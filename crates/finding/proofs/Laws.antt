@@ -18,13 +18,13 @@ use Rattle.protocol.specs.Key.{Key}
 use Rattle.protocol.specs.Transcript.{Parts}
 use Rattle.protocol.specs.Shares.{s, b, d}
 use Rattle.protocol.specs.Prover.{solves, binary}
-use Rattle.protocol.specs.Pair.{Reading, refusal, collision, secret, square, errors, joined, wrongSquare, uv, values}
+use Rattle.protocol.specs.Pair.{Reading, refusal, collision, secret, square, errors, joined, wrongSquare, uv, values, foundAs, valueList, says}
 use Rattle.inputs.specs.Layout.{executionSize}
 use Rattle.compare.specs.declared.Spot.{Spot}
 use Rattle.compare.specs.Spots.{Inside, shown}
 use Rattle.reading.specs.declared.Reading as code
 use Rattle.reading.specs.declared.Reading.the-variants.{Collision}
-use Rattle.reading.specs.Answers.{answerOf, hash1Of, hash2Of, bitsOf, errorsOf}
+use Rattle.reading.specs.Answers.{means, hash1Of, hash2Of, bitsOf, errorsOf}
 use Rattle.finding.specs.Reads.{Reads}
 
 pub size-most : (m N : ℕ) → m ≤ 128 → N ≤ 32 → executionSize m N ≤ 19632
@@ -99,7 +99,7 @@ values-plain K P R e =
     (square (suc e) (suc w) (joined K P R e b w) (joined K P R e d w)) (errors (suc e) (uv K P R e)) tt tt tt
 
 pub reads-values : (K : Key) (P R : Parts) (e : ℕ) {x : Reading} {r : code.Reading} (h1 h2 : List ℕ) {bits bits′ errs errs′ : List ℕ} → x ≡ values K P R e
-    → r ≡ answerOf (values K P R e) → bits′ ≡ bitsOf (values K P R e) bits → errs′ ≡ errorsOf (values K P R e) errs → Reads x r h1 h1 h2 h2 bits bits′ errs errs′
+    → means r ≡ says (values K P R e) → bits′ ≡ bitsOf (values K P R e) bits → errs′ ≡ errorsOf (values K P R e) errs → Reads x r h1 h1 h2 h2 bits bits′ errs errs′
 reads-values K P R e {x} {r} h1 h2 {bits} {bits′} {errs} {errs′} is a b c =
     subst (λ (y : Reading). Reads y r h1 h1 h2 h2 bits bits′ errs errs′) (sym is)
     (record { answer = a; hash1 = plain-hash1 (values K P R e) h1 (values-plain K P R e); hash2 = plain-hash2 (values K P R e) h2 (values-plain K P R e); secret = b; uv = c })
@@ -111,7 +111,7 @@ pub reads-collision : (kind e party n : ℕ) (one two h1 h2 bits errs : List ℕ
 reads-collision kind e party n one two h1 h2 bits errs {x} {ys} {zs} is l1 l2 e1 e2 =
     subst (λ (y : Reading). Reads y (Collision kind (e + 1) party n) h1 (ys ++ drop n h1) h2 (zs ++ drop n h2) bits bits errs errs) (sym is)
     (record {
-      answer = λ i. Collision kind (add-one e i) party (l1′ i);
+      answer = λ i. foundAs 1 (valueList kind (add-one e i) party (l1′ i) 0 0 0);
       hash1 = λ i. e1 i ++ drop (l1′ i) h1;
       hash2 = λ i. e2 i ++ drop (l2′ i) h2;
       secret = refl;

@@ -4,11 +4,13 @@ ghost use mathlib.Core.Path.{_≡_};
 ghost use Prim.Native.Nat.{ℕ, _<_, _%_};
 ghost use Rattle.gf.specs.Field.{gmul, inverse};
 
-// x times a (XTIMES).
+// x times a (XTIMES): the top bit c comes back as x^4 + x^3 + x + 1, which is x + 1 and x^3 times that.
 pub fn xtime(a: u8) -> u8
     ensures { λ r. ⌜ r ≡ gmul 2 a ⌝ }
 {
-    (a << 1) ^ (0x1b * (a >> 7))
+    let c = a >> 7;
+    let d = c ^ (c << 1);
+    (a << 1) ^ (d ^ (d << 3))
 }
 
 // (x + 1) times a.

@@ -7,16 +7,18 @@ use native.Mathlib.Omega.{arith}
 use lib.ListN.{length, take, drop}
 use Rattle.lists.specs.Index.{cat, part}
 use Rattle.lists.specs.Check.{Check, accepted, first}
-use Rattle.lists.specs.TestLaws.{clean, first-stops, first-more}
+use Rattle.lists.specs.TestLaws.{clean, pick-true, pick-false, first-stops, first-more}
 use Rattle.protocol.specs.Key.{Key, keptCount}
 use Rattle.protocol.specs.Transcript.{Parts}
 use Rattle.protocol.specs.Judge.{hπAt, formChecks, hashChecks, partsChecks}
+use Rattle.protocol.specs.Pair.{isAccepted}
 use Rattle.sha_core.specs.Fips180.{sha256}
 use Rattle.refusals.specs.Number.{numberOf, none-applies, refused-is}
 use Rattle.key.specs.declared.Numbers.{Numbers}
 use Rattle.key.specs.Numbers.{Limits, Depth, keyWith}
 use Rattle.walk.specs.Lists.{hπFrom, hψFrom, listsSize}
-use Rattle.walk.specs.Walk.{partsFrom, Within, Standing, Stood, Walked, checksAt, hashTests}
+use Rattle.walk.specs.Walk.{partsFrom, Within, Standing, Stood, stored, Walked, checksAt, hashTests}
+use Rattle.judge.specs.Lists.{partsLists}
 
 module _ (K : Key) (P : Parts) where
   pub form-clean : numberOf (first (formChecks K P)) ≡ 0 → first (formChecks K P) ≡ accepted
@@ -31,7 +33,11 @@ module _ (K : Key) (P : Parts) where
       (first-stops (formChecks K P ++ cat (K .M) (checksAt K P)) (hashChecks K P)
       (first-stops (formChecks K P) (cat (K .M) (checksAt K P)) (refused-is (first (formChecks K P)) e ne))))
 
-  module _ (good : first (formChecks K P) ≡ accepted) {code : ℕ} {lists : List ℕ} (w : Walked K P code lists) where
+  pub form-kept : {f : ℕ} (x : List ℕ) → f ≡ numberOf (first (formChecks K P)) → (f ≡ 0 → ⊥) → x ≡ partsLists K P x
+  unfolding partsLists isAccepted
+  form-kept x e ne = sym (pick-false (isAccepted (first (formChecks K P))) (stored K P (K .M) x) x (ap isAccepted (refused-is (first (formChecks K P)) e ne)))
+
+  module _ (good : first (formChecks K P) ≡ accepted) {code : ℕ} {x lists : List ℕ} (w : Walked K P code x lists) where
     pub walk-refused : (code ≡ 0 → ⊥) → code ≡ numberOf (first (partsChecks K P))
     unfolding partsChecks
     walk-refused ne =
@@ -39,6 +45,10 @@ module _ (K : Key) (P : Parts) where
         (ap numberOf
         (first-stops (formChecks K P ++ cat (K .M) (checksAt K P)) (hashChecks K P)
         (first-more (formChecks K P) (cat (K .M) (checksAt K P)) good ∙ refused-is (first (cat (K .M) (checksAt K P))) (w .code-is) ne)))
+
+    pub walk-lists : lists ≡ partsLists K P x
+    unfolding partsLists isAccepted
+    walk-lists = w .lists-are ∙ sym (pick-true (isAccepted (first (formChecks K P))) (stored K P (K .M) x) x (ap isAccepted good))
 
     given-is : (a : ℕ) → a ≡ 16 * K .τ + 32 * keptCount K → take (a + 32 - a) (drop a (P .p3)) ≡ hπAt K P
     unfolding hπAt

@@ -12,7 +12,7 @@ use lib.ListN.{length, getD, take, drop}
 use lib.Seq.{take-at}
 use Rattle.lists.specs.Tab.{tab, tab-length}
 use Rattle.lists.specs.Check.{accepted, first}
-use Rattle.lists.specs.TestLaws.{not-of-true, not-of-false, first-hit, first-miss, first-stops, first-more, each-holds, holds-fails}
+use Rattle.lists.specs.TestLaws.{pick-true, pick-false, not-of-true, not-of-false, first-hit, first-miss, first-stops, first-more, each-holds, holds-fails}
 use Rattle.protocol.specs.Key.{Key, entries, keyOf, keyChecks}
 use Rattle.protocol.specs.Transcript.{Parts, partAt, partsOf, sizes, goodHeader}
 use Rattle.protocol.specs.Judge.{partsChecks, runChecks, lentEnough, judgeLent}
@@ -22,6 +22,7 @@ use Rattle.key.specs.Numbers.{Read, keyWith}
 use Rattle.key.specs.KeyLaws.{entries-of, key-is}
 use Rattle.transcript.specs.Layout.{startOf, start-next, start-within, part-is, last-is, part-long}
 use Rattle.walk.specs.Walk.{partsFrom}
+use Rattle.judge.specs.Lists.{partsLists, runLists}
 
 -- the lengths of parts 3 and 4
 pub third-size : (K : Key) → getD (sizes K) 2 0 ≡ 16 * K .τ + 32 * (K .M - K .τ) + 32
@@ -43,6 +44,10 @@ module _ (K : Key) (x : List ℕ) where
   pub header-bad : goodHeader K x ≡ false → 12 ≡ numberOf (first (runChecks K x))
   unfolding runChecks
   header-bad e = sym (ap numberOf (first-hit (not (goodHeader K x)) 12 (partsChecks K (partsOf x)) (not-of-false e)))
+
+  pub header-kept : (lists : List ℕ) → goodHeader K x ≡ false → lists ≡ runLists K x lists
+  unfolding runLists
+  header-kept lists e = sym (pick-false (goodHeader K x) (partsLists K (partsOf x) lists) lists e)
 
   module _ (good : goodHeader K x ≡ true) where
     -- part i by its slice, and the slice's bounds
@@ -76,6 +81,11 @@ module _ (K : Key) (x : List ℕ) where
     unfolding runChecks
     header-good {P} {r} e is =
         is ∙ (ap (λ (y : Parts). numberOf (first (partsChecks K y))) e ∙ sym (ap numberOf (first-miss (not (goodHeader K x)) 12 (partsChecks K (partsOf x)) (not-of-true good))))
+
+    pub header-lists : {P : Parts} {y : List ℕ} (lists : List ℕ) → P ≡ partsOf x → y ≡ partsLists K P lists → y ≡ runLists K x lists
+    unfolding runLists
+    header-lists lists e is =
+        is ∙ (ap (λ (Q : Parts). partsLists K Q lists) e ∙ sym (pick-true (goodHeader K x) (partsLists K (partsOf x) lists) lists good))
 
 -- ---- from the key's bytes
 module _ (key x : List ℕ) (work entry : ℕ) where

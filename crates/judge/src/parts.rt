@@ -11,6 +11,7 @@ ghost use Rattle.protocol.specs.Judge.{partsChecks};
 ghost use Rattle.key.specs.Numbers.{Limits, keyWith};
 ghost use Rattle.walk.specs.Lists.{hπFrom, hψFrom, listsSize, Listed};
 ghost use Rattle.walk.specs.Walk.{partsFrom, hashTests};
+ghost use Rattle.judge.specs.Lists.{partsLists};
 use key::Numbers;
 use walk::hashes;
 
@@ -35,7 +36,8 @@ fn list_code(
     hashes::hash_code(p1, &gamma, given, &pi, p5, &psi)
 }
 
-// The first number that applies to the parts, whose first six lengths are right, or 0. `lists` gets the inputs of the three list hashes.
+// The first number that applies to the parts, whose first six lengths are right, or 0. Where it is 0, `lists` has the inputs of the three
+// list hashes.
 pub fn judge_parts(
     k: Numbers,
     entries: &[u32],
@@ -57,7 +59,7 @@ pub fn judge_parts(
     requires { ⌜ 3 * k .m * k .parties ≤ length (now work) ⌝ }
     ensures { λ r. ⌜ r ≡ numberOf (first (partsChecks (keyWith k (now (entries .entry))) (partsFrom (now (p1 .entry)) (now (p2 .entry)) (now (p3 .entry)) (now (p4 .entry)) (now (p5 .entry)) (now (p6 .entry)) (now (p7 .entry))))) ⌝ }
     ensures { λ r. ⌜ (r ≡ 0 → Listed (keyWith k (now (entries .entry))) (partsFrom (now (p1 .entry)) (now (p2 .entry)) (now (p3 .entry)) (now (p4 .entry)) (now (p5 .entry)) (now (p6 .entry)) (now (p7 .entry))) (now (lists .exit))) ⌝ }
-    ensures { λ _. ⌜ length (now (lists .exit)) ≡ length (now (lists .entry)) ⌝ }
+    ensures { λ _. ⌜ now (lists .exit) ≡ partsLists (keyWith k (now (entries .entry))) (partsFrom (now (p1 .entry)) (now (p2 .entry)) (now (p3 .entry)) (now (p4 .entry)) (now (p5 .entry)) (now (p6 .entry)) (now (p7 .entry))) (now (lists .entry)) ⌝ }
     ensures { λ _. ⌜ length (now (work .exit)) ≡ length (now (work .entry)) ⌝ }
 {
     let form = transcript::check_parts(k, p2, p6, p7);

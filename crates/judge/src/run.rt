@@ -9,13 +9,14 @@ ghost use Rattle.protocol.specs.Transcript.{partsOf};
 ghost use Rattle.protocol.specs.Judge.{runChecks, judgeLent};
 ghost use Rattle.key.specs.Numbers.{Limits, keyWith};
 ghost use Rattle.walk.specs.Lists.{listsSize, Listed};
+ghost use Rattle.judge.specs.Lists.{runLists};
 use crate::parts;
 use key::Numbers;
 use refusals::HEADER;
 use refusals::ROOM;
 use transcript::part_start;
 
-// The first number that applies to a file, for a key that was read, or 0. `lists` gets the inputs of the three list hashes.
+// The first number that applies to a file, for a key that was read, or 0. Where it is 0, `lists` has the inputs of the three list hashes.
 pub fn judge_run(k: Numbers, entries: &[u32], run: &[u8], lists: &mut [u8], work: &mut [u32]) -> u32
     requires { ⌜ Limits k ⌝ }
     requires { ⌜ k .n * (k .m + 1) ≤ length (now entries) ⌝ }
@@ -23,7 +24,7 @@ pub fn judge_run(k: Numbers, entries: &[u32], run: &[u8], lists: &mut [u8], work
     requires { ⌜ 3 * k .m * k .parties ≤ length (now work) ⌝ }
     ensures { λ r. ⌜ r ≡ numberOf (first (runChecks (keyWith k (now (entries .entry))) (now (run .entry)))) ⌝ }
     ensures { λ r. ⌜ (r ≡ 0 → Listed (keyWith k (now (entries .entry))) (partsOf (now (run .entry))) (now (lists .exit))) ⌝ }
-    ensures { λ _. ⌜ length (now (lists .exit)) ≡ length (now (lists .entry)) ⌝ }
+    ensures { λ _. ⌜ now (lists .exit) ≡ runLists (keyWith k (now (entries .entry))) (now (run .entry)) (now (lists .entry)) ⌝ }
     ensures { λ _. ⌜ length (now (work .exit)) ≡ length (now (work .entry)) ⌝ }
 {
     if !transcript::good_header(run, k) {
@@ -36,6 +37,7 @@ pub fn judge_run(k: Numbers, entries: &[u32], run: &[u8], lists: &mut [u8], work
     let s4 = part_start(k, 4);
     let s5 = part_start(k, 5);
     let s6 = part_start(k, 6);
+    let end = run.len();
     parts::judge_parts(
         k,
         entries,
@@ -45,7 +47,7 @@ pub fn judge_run(k: Numbers, entries: &[u32], run: &[u8], lists: &mut [u8], work
         &run[s3..s4],
         &run[s4..s5],
         &run[s5..s6],
-        &run[s6..],
+        &run[s6..end],
         lists,
         work,
     )
@@ -70,5 +72,6 @@ pub fn judge(key: &[u8], run: &[u8], entries: &mut [u32], work: &mut [u32]) -> u
     key::entries(key, entries);
     let mut lists = [0u8; 3072];
     let size = 32 * k.executions + 64 * (k.executions - k.opened);
-    judge_run(k, &entries[..count], run, &mut lists[..size], work)
+    let verdict = judge_run(k, &entries[..count], run, &mut lists[..size], work);
+    verdict
 }

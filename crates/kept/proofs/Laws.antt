@@ -6,7 +6,7 @@ use mathlib.Core.List.{List, _++_, append-nil}
 use native.Mathlib.Omega.{arith}
 use mathlib.Core.Bool.{Bool}
 use lib.Dec.{eqb}
-use lib.ListN.{length, getD, take, drop, length-drop, drop-of-length-le, List·getD-append}
+use lib.ListN.{length, getD, take, drop, replicate, length-drop, drop-of-length-le, List·getD-append}
 use lib.Seq.{take-all}
 use Rattle.lists.specs.Tab.{tab, tab-at, tab-length}
 use Rattle.lists.specs.Index.{part}
@@ -91,12 +91,21 @@ module _ {q n m N D hid e : ℕ} {reply kappa seed entries : List ℕ} {K : Key}
         ss = S .ss;
       }
 
-  pub evaluates : {h om pi psi : List ℕ} {zero : Bool} → h ≡ sha256 (hin K (keptView K P e)) → ((suc hid ≡ N → ⊥) → om ≡ sha256 (Ωin K (keptView K P e)))
+  -- party N is hidden
+  hides-last : suc hid ≡ N → suc (hidden K P e) ≡ K .N
+  hides-last z = omega (arith, so .hides, so .sized .parties)
+
+  last-hides : suc (hidden K P e) ≡ K .N → suc hid ≡ N
+  last-hides z = omega (arith, so .hides, so .sized .parties)
+
+  pub evaluates : {h om pi psi : List ℕ} {zero : Bool} → h ≡ sha256 (hin K (keptView K P e)) → (suc hid ≡ N → om ≡ replicate 32 0)
+      → ((suc hid ≡ N → ⊥) → (v : View) → ForΩ m N e leaves work K v → om ≡ sha256 (Ωin K v))
       → Answered K (keptView K P e) kappa seed pi psi zero → Evaluates K P e h om pi psi zero
-  evaluates {h} {om} {pi} {psi} {zero} x y z =
+  evaluates {h} {om} {pi} {psi} {zero} x w y z =
       record {
         h-is = x;
-        Ω-is = λ other. y (λ w. other (ap suc (so .hides) ∙ (w ∙ sym (so .sized .parties))));
+        Ω-is = λ other. y (λ l. other (hides-last l)) (keptView K P e) (kept-for-Ω (λ l. other (hides-last l)));
+        Ω-hidden = λ last. w (last-hides last);
         answers =
             subst (λ (k : List ℕ). Answered K (keptView K P e) k (P .p4) pi psi zero) (sym (so .κ-is))
             (subst (λ (l : List ℕ). Answered K (keptView K P e) kappa l pi psi zero) (sym (so .L-is)) z);

@@ -5,7 +5,7 @@ use mathlib.Core.Path.{_≡_}
 use mathlib.Core.Bool.{Bool}
 use mathlib.Core.List.{List}
 use lib.Dec.{eqb}
-use lib.ListN.{getD}
+use lib.ListN.{getD, replicate}
 use Rattle.lists.specs.Bytes.{num}
 use Rattle.numbers.specs.Sum.{sum}
 use Rattle.sha_core.specs.Fips180.{sha256}
@@ -45,8 +45,9 @@ pub record KeptIn (q n m N D hid e : ℕ) (reply kappa seed entries : List ℕ) 
   pub κ-is : κ K P ≡ kappa
   pub L-is : P .p4 ≡ seed
 
--- what the judge computes of kept execution e: h(e), Ω where party N is open, Π, Ψ, and whether the outputs add up to 0
+-- what the judge computes of kept execution e: h(e), Ω where party N is open, else zeros, Π, Ψ, and whether the outputs add up to 0
 pub record Evaluates (K : Key) (P : Parts) (e : ℕ) (h omega pi psi : List ℕ) (zero : Bool) : Type 0 where
   pub h-is : h ≡ sha256 (hin K (keptView K P e))
   pub Ω-is : (suc (hidden K P e) ≡ K .N → ⊥) → omega ≡ sha256 (Ωin K (keptView K P e))
+  pub Ω-hidden : suc (hidden K P e) ≡ K .N → omega ≡ replicate 32 0
   pub answers : Answered K (keptView K P e) (κ K P) (P .p4) pi psi zero

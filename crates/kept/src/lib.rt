@@ -1,15 +1,17 @@
 // A kept execution as the judge sees it.
 
 ghost use mathlib.Core.Path.{_≡_};
-ghost use Prim.Native.Nat.{_+_, _*_, _^_, _<_, _≤_};
-ghost use lib.ListN.{length};
+ghost use Prim.Native.Nat.{suc, _+_, _*_, _^_, _<_, _≤_};
+ghost use lib.ListN.{length, replicate};
 ghost use Rattle.numbers.specs.Inverse.{Member, Ns};
+ghost use Rattle.sha_core.specs.Fips180.{sha256};
 ghost use Rattle.protocol.specs.Key.{Key};
-ghost use Rattle.protocol.specs.Shares.{View};
+ghost use Rattle.protocol.specs.Shares.{View, Ωin};
 ghost use Rattle.protocol.specs.Transcript.{Parts};
 ghost use Rattle.execution.specs.Shown.{Limits};
 ghost use Rattle.execution.specs.Lists.{Reduced};
 ghost use Rattle.execution.specs.Prepared.{Kept, Given, lastCount};
+ghost use Rattle.views.specs.Seen.{Bounded, ForΩ};
 ghost use Rattle.kept.specs.Kept.{Shared, Answered, KeptIn, Evaluates};
 use execution::prepare;
 
@@ -72,7 +74,28 @@ fn answer(
     Outcome { pi, psi, zero }
 }
 
-// What the judge computes of a kept execution. Ω means nothing where party N is hidden.
+// Ω of a kept execution; 32 zero bytes where party N is hidden.
+fn omega_at(
+    m: usize,
+    parties: usize,
+    hidden: usize,
+    execution: usize,
+    leaves: &[u8],
+    work: &[u32],
+) -> [u8; 32]
+    requires { ⌜ Bounded m parties execution ⌝ }
+    requires { ⌜ length (now leaves) ≡ 16 * parties ⌝ }
+    requires { ⌜ 3 * m * parties ≤ length (now work) ⌝ }
+    ensures { λ r. ⌜ (suc hidden ≡ parties → r ≡ replicate 32 0) ⌝ }
+    ensures { λ r. ⌜ ((suc hidden ≡ parties → ⊥) → (K : Key) (v : View) → ForΩ m parties execution (now (leaves .entry)) (now (work .entry)) K v → r ≡ sha256 (Ωin K v)) ⌝ }
+{
+    if hidden == parties - 1 {
+        return [0u8; 32];
+    }
+    views::parties::omega_of(m, parties, execution, leaves, work)
+}
+
+// What the judge computes of a kept execution. Ω is 0 where party N is hidden.
 pub struct Evaluated {
     pub h: [u8; 32],
     pub omega: [u8; 32],
@@ -122,7 +145,7 @@ fn evaluate(
         leaves,
         work,
     );
-    let omega = views::parties::omega_of(m, parties, execution, leaves, work);
+    let omega = omega_at(m, parties, hidden, execution, leaves, work);
     let mut sums = [0u32; 128];
     let mut outs = [0u32; 32];
     let r = answer(

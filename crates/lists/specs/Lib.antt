@@ -7,3 +7,4 @@ pub mod CatLaws
 pub mod TestLaws
 pub mod Inj
 pub mod Written
+pub mod ByteList

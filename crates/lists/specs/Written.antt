@@ -101,3 +101,11 @@ pub later-part : (out a : List ℕ) (mid : ℕ) → length a ≡ mid
 later-part out a mid h =
     let n : length (drop mid out) ≤ length (a ++ drop mid out) - mid = omega (arith, length-append a (drop mid out)) in
     rw (drop-at a (drop mid out) mid h, take-all (length (a ++ drop mid out) - mid) (drop mid out) n) (length-drop mid out)
+
+-- All that follows a place is lent, and ys is written in front of it: ys stands at the place, all else is as before.
+pub tail-written : (ys r out : List ℕ) (from n : ℕ) → r ≡ ys ++ drop n (take (length out - from) (drop from out))
+    → take from out ++ (r ++ drop (length out - from) (drop from out)) ≡ take from out ++ ys ++ drop (from + n) out
+tail-written ys r out from n y =
+    let all : length (drop from out) ≤ length out - from = omega (arith, length-drop from out) in
+    rw (y, take-all (length out - from) (drop from out) all, drop-of-length-le (drop from out) {i = length out - from} all, append-nil, drop-drop n from out)
+    (sym (append-assoc (take from out) ys (drop (from + n) out)))

@@ -89,7 +89,6 @@ pub fn message_1(
         return Answer::Refused(refusal);
     }
     let h = digest(key, seeds, work);
-    let end = place + 32;
-    streams::copy(&h, &mut out[place..end]);
+    prover::put(32, &h, &mut out[place..]);
     Answer::Length(32)
 }

@@ -5,7 +5,8 @@ use mathlib.Core.Path.{_≡_, refl, sym, _∙_, ap, ap₂, subst}
 use mathlib.Core.Bool.{true, false}
 use mathlib.Core.List.{List, [], _++_, append-assoc}
 use native.Mathlib.Omega.{arith}
-use lib.ListN.{length, getD, take, drop}
+use lib.ListN.{length, getD, take, drop, length-append, length-drop}
+use lib.Seq.{drop-drop, take-at, drop-at}
 use Rattle.lists.specs.Written.{both-parts, built-all, built-more, built-none, puts-none, puts-some}
 use Rattle.lists.specs.Index.{cat, pick, part}
 use Rattle.sha.specs.State.{Stands, Fed}
@@ -132,7 +133,14 @@ pub rest-write : {q m N D M : ℕ} {E seeds secret κ : List ℕ} (out a b h : L
     → Rest q m N D M E seeds secret κ (take mid (a ++ drop mid out) ++ (b ++ drop (length (a ++ drop mid out) - mid) (drop mid (a ++ drop mid out))))
 rest-write out a b h mid l r e = rw (both-parts out a b mid l) (rest-of r e)
 
-pub write-3 : {q m N D M : ℕ} {E seeds secret κ : List ℕ} (K : Key) (out a b : List ℕ) (mid : ℕ) → length a ≡ mid
+-- the first half is written to the front of an output, the second behind it, up to an end
+pub relent-length : (out a : List ℕ) (mid : ℕ) → length a ≡ mid → mid ≤ length out → length (a ++ drop mid out) ≡ length out
+relent-length out a mid h k = omega (arith, length-append a (drop mid out), length-drop mid out)
+
+pub write-3 : {q m N D M : ℕ} {E seeds secret κ : List ℕ} (K : Key) (out a b : List ℕ) (mid end : ℕ) → length a ≡ mid → mid ≤ end
     → Rest q m N D M E seeds secret κ b → Sized q m N K → depth K ≡ D → K .M ≡ M → a ≡ cat M (λ e. pick (opened E e) (part seeds (16 * e) 16) [])
-    → take mid (a ++ drop mid out) ++ (b ++ drop (length (a ++ drop mid out) - mid) (drop mid (a ++ drop mid out))) ≡ message3 K seeds secret E κ
-write-3 K out a b mid l r sized deep eM ea = both-parts out a b mid l ∙ message3-of K r sized deep eM ea
+    → take mid (a ++ drop mid out) ++ (b ++ drop (end - mid) (drop mid (a ++ drop mid out))) ≡ message3 K seeds secret E κ ++ drop end out
+write-3 K out a b mid end l h r sized deep eM ea =
+    let z : mid + (end - mid) ≡ end = omega arith in
+    rw (take-at a (drop mid out) mid l, drop-at a (drop mid out) mid l, drop-drop (end - mid) mid out, z)
+    (sym (append-assoc a b (drop end out)) ∙ ap (λ (x : List ℕ). x ++ drop end out) (message3-of K r sized deep eM ea))

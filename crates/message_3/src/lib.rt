@@ -2,9 +2,9 @@
 
 ghost use mathlib.Core.Path.{_≡_};
 ghost use mathlib.Core.Bool.{true, false, not};
-ghost use mathlib.Core.List.{[]};
+ghost use mathlib.Core.List.{[], _++_};
 ghost use Prim.Native.Nat.{_+_, _*_, _-_, _^_, _<_, _≤_};
-ghost use lib.ListN.{length};
+ghost use lib.ListN.{length, drop};
 ghost use Rattle.lists.specs.Written.{Puts};
 ghost use Rattle.lists.specs.Index.{cat, pick, part, count};
 ghost use Rattle.lists.specs.Check.{accepted, first};
@@ -344,7 +344,7 @@ fn rest(
     streams::copy(&h, &mut out[size..]);
 }
 
-// Message 3 of a key and inputs that are accepted, into a list of its length.
+// Message 3 of a key and inputs that are accepted to the front of an output, what stands behind it stays; returns its length.
 fn write(
     key: &[u8],
     seeds: &[u8],
@@ -353,12 +353,13 @@ fn write(
     kappa: &[u8],
     work: &mut [u32],
     out: &mut [u8],
-)
+) -> usize
     requires { ⌜ first (keyChecks (keyOf (now key)) (now key)) ≡ accepted ⌝ }
     requires { ⌜ Inputs (keyOf (now key)) (now seeds) (now secret) (now e) (now kappa) ⌝ }
     requires { ⌜ 4 * keyOf (now key) .m * keyOf (now key) .N ≤ length (now work) ⌝ }
-    requires { ⌜ length (now out) ≡ 16 * keyOf (now key) .τ + 32 * (keyOf (now key) .M - keyOf (now key) .τ) + 32 ⌝ }
-    ensures { λ _. ⌜ now (out .exit) ≡ message3 (keyOf (now (key .entry))) (now (seeds .entry)) (now (secret .entry)) (now (e .entry)) (now (kappa .entry)) ⌝ }
+    requires { ⌜ length (message3 (keyOf (now key)) (now seeds) (now secret) (now e) (now kappa)) ≤ length (now out) ⌝ }
+    ensures { λ r. ⌜ r ≡ length (message3 (keyOf (now (key .entry))) (now (seeds .entry)) (now (secret .entry)) (now (e .entry)) (now (kappa .entry))) ⌝ }
+    ensures { λ r. ⌜ now (out .exit) ≡ message3 (keyOf (now (key .entry))) (now (seeds .entry)) (now (secret .entry)) (now (e .entry)) (now (kappa .entry)) ++ drop r (now (out .entry)) ⌝ }
 {
     let k = key::numbers_of(key);
     let q = k.q;
@@ -366,6 +367,7 @@ fn write(
     let parties = k.parties;
     let executions = k.executions;
     let mid = 16 * k.opened;
+    let end = checks::size_3(k.opened, k.executions);
     let depth = key::depth(parties);
     masters(executions, seeds, e, &mut out[..mid]);
     rest(
@@ -379,8 +381,9 @@ fn write(
         e,
         kappa,
         work,
-        &mut out[mid..],
+        &mut out[mid..end],
     );
+    end
 }
 
 // Message 3 into the output from a place on, or why not.
@@ -412,9 +415,6 @@ pub fn message_3(
     if refusal != 0 {
         return Answer::Refused(refusal);
     }
-    let k = key::numbers_of(key);
-    let count = checks::size_3(k.opened, k.executions);
-    let end = place + count;
-    write(key, seeds, secret, e, kappa, work, &mut out[place..end]);
+    let count = write(key, seeds, secret, e, kappa, work, &mut out[place..]);
     Answer::Length(count)
 }

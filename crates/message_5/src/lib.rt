@@ -257,7 +257,6 @@ pub fn message_5(
         return Answer::Refused(refusal);
     }
     let h = digest(key, seeds, secret, e, kappa, seed, entries, work);
-    let end = place + 32;
-    streams::copy(&h, &mut out[place..end]);
+    prover::put(32, &h, &mut out[place..]);
     Answer::Length(32)
 }

@@ -2,8 +2,9 @@
 
 ghost use mathlib.Core.Path.{_≡_};
 ghost use mathlib.Core.Bool.{true};
+ghost use mathlib.Core.List.{_++_};
 ghost use Prim.Native.Nat.{_+_, _*_, _-_, _<_, _≤_};
-ghost use lib.ListN.{length, getD};
+ghost use lib.ListN.{length, getD, drop};
 ghost use Rattle.lists.specs.Check.{accepted, first};
 ghost use Rattle.protocol.specs.Key.{keyOf, keyChecks, entries as entriesOf};
 ghost use Rattle.protocol.specs.Prover.{message7, verdict7, output, goodHidden};
@@ -174,7 +175,8 @@ fn body(
     );
 }
 
-// Message 7 of a key and inputs that are accepted, into a list of its length. The key's entries go to `entries`.
+// Message 7 of a key and inputs that are accepted to the front of an output, what stands behind it stays; returns its length.
+// The key's entries go to `entries`.
 fn write(
     key: &[u8],
     seeds: &[u8],
@@ -186,19 +188,21 @@ fn write(
     entries: &mut [u32],
     work: &mut [u32],
     out: &mut [u8],
-)
+) -> usize
     requires { ⌜ first (keyChecks (keyOf (now key)) (now key)) ≡ accepted ⌝ }
     requires { ⌜ Inputs (keyOf (now key)) (now seeds) (now secret) (now e) (now kappa) ⌝ }
     requires { ⌜ length (now seed) ≡ 16 ⌝ }
     requires { ⌜ goodHidden (keyOf (now key)) (now hidden) ≡ true ⌝ }
     requires { ⌜ entriesOf (keyOf (now key)) ≤ length (now entries) ⌝ }
     requires { ⌜ 4 * keyOf (now key) .m * keyOf (now key) .N ≤ length (now work) ⌝ }
-    requires { ⌜ length (message7 (keyOf (now key)) (now seeds) (now secret) (now e) (now kappa) (now seed) (now hidden)) ≡ length (now out) ⌝ }
-    ensures { λ _. ⌜ now (out .exit) ≡ message7 (keyOf (now (key .entry))) (now (seeds .entry)) (now (secret .entry)) (now (e .entry)) (now (kappa .entry)) (now (seed .entry)) (now (hidden .entry)) ⌝ }
+    requires { ⌜ length (message7 (keyOf (now key)) (now seeds) (now secret) (now e) (now kappa) (now seed) (now hidden)) ≤ length (now out) ⌝ }
+    ensures { λ r. ⌜ r ≡ length (message7 (keyOf (now (key .entry))) (now (seeds .entry)) (now (secret .entry)) (now (e .entry)) (now (kappa .entry)) (now (seed .entry)) (now (hidden .entry))) ⌝ }
+    ensures { λ r. ⌜ now (out .exit) ≡ message7 (keyOf (now (key .entry))) (now (seeds .entry)) (now (secret .entry)) (now (e .entry)) (now (kappa .entry)) (now (seed .entry)) (now (hidden .entry)) ++ drop r (now (out .entry)) ⌝ }
 {
     let k = key::numbers_of(key);
     let depth = key::depth(k.parties);
     key::entries(key, entries);
+    let count = replies_length(k, e, hidden);
     body(
         k,
         depth,
@@ -210,8 +214,9 @@ fn write(
         hidden,
         entries,
         work,
-        out,
+        &mut out[..count],
     );
+    count
 }
 
 // Message 7 into the output from a place on, or why not.
@@ -247,10 +252,7 @@ pub fn message_7(
     if refusal != 0 {
         return Answer::Refused(refusal);
     }
-    let k = key::numbers_of(key);
-    let count = replies_length(k, e, hidden);
-    let end = place + count;
-    write(
+    let count = write(
         key,
         seeds,
         secret,
@@ -260,7 +262,7 @@ pub fn message_7(
         hidden,
         entries,
         work,
-        &mut out[place..end],
+        &mut out[place..],
     );
     Answer::Length(count)
 }

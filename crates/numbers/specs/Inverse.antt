@@ -56,6 +56,9 @@ qs = 257 ∷ 65537 ∷ 2147483647 ∷ []
 abbrev pub Ns : List ℕ
 Ns = 2 ∷ 4 ∷ 8 ∷ 16 ∷ 32 ∷ []
 
+pub q-prime : {q : ℕ} → Member q qs → Prime q
+q-prime h = each Prime qs h (prime-257, (prime-65537, (prime-2147483647, tt)))
+
 pub q-cases : {q : ℕ} → Member q qs → (q ≡ 257) ⊎ ((q ≡ 65537) ⊎ (q ≡ 2147483647))
 q-cases {q} h = each (λ x. (x ≡ 257) ⊎ ((x ≡ 65537) ⊎ (x ≡ 2147483647))) qs h (inl refl, (inr (inl refl), (inr (inr refl), tt)))
 
@@ -63,9 +66,6 @@ pub N-cases : {N : ℕ} → Member N Ns → (N ≡ 2) ⊎ ((N ≡ 4) ⊎ ((N ≡
 N-cases h =
     each (λ x. (x ≡ 2) ⊎ ((x ≡ 4) ⊎ ((x ≡ 8) ⊎ ((x ≡ 16) ⊎ (x ≡ 32))))) Ns h
     (inl refl, (inr (inl refl), (inr (inr (inl refl)), (inr (inr (inr (inl refl))), (inr (inr (inr (inr refl))), tt)))))
-
-pub q-prime : {q : ℕ} → Member q qs → Prime q
-q-prime h = each Prime qs h (prime-257, (prime-65537, (prime-2147483647, tt)))
 
 pub q-least : {q : ℕ} → Member q qs → 257 ≤ q
 q-least h = each (λ q. 257 ≤ q) qs h (omega arith, (omega arith, (omega arith, tt)))

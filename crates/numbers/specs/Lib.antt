@@ -3,5 +3,4 @@ pub mod Sum
 pub mod Prime
 pub mod Inverse
 pub mod Output
-pub mod Cases
 pub mod Residue

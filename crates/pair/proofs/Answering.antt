@@ -13,7 +13,7 @@ use Rattle.protocol.proofs.Demand3.{is-accepted}
 use Rattle.protocol.specs.Key.{Key, keyOf, keyChecks}
 use Rattle.protocol.specs.Transcript.{Parts, partsOf}
 use Rattle.protocol.specs.Judge.{runChecks}
-use Rattle.protocol.specs.Pair.{Reading, firstDifferent, comparisons, values, execution, finding, sameFront, isAccepted, enough, Lengths, pairChecks, readOf, pair}
+use Rattle.protocol.specs.Pair.{Reading, firstDifferent, comparisons, values, execution, finding, sameFront, isAccepted, enough, Lengths, pairChecks, readOf, pair, refusedAs}
 use Rattle.protocol.specs.Accepts.{GoodKey}
 use Rattle.refusals.specs.Number.{numberOf, none-applies}
 use Rattle.key.specs.declared.Numbers.{Numbers}
@@ -24,6 +24,7 @@ use Rattle.side.specs.Side.{Sound}
 use Rattle.accepted.specs.Forks.{forkChecks}
 use Rattle.reading.specs.declared.Reading as code
 use Rattle.reading.specs.declared.Reading.the-variants.{Refused}
+use Rattle.reading.specs.Answers.{means}
 use Rattle.finding.specs.Reads.{Reads}
 use Rattle.pair.specs.Forks.{Forks, Located}
 
@@ -90,7 +91,7 @@ forks-accepted K x y e z = none-applies (forkChecks K x y) (omega arith, (omega 
 pub reads-refused : (v : Verdict) (x : Reading) {n : ℕ} (a b c d : List ℕ) → n ≡ numberOf v → (n ≡ 0 → ⊥) → Reads (readOf v x) (Refused n) a a b b c c d d
 unfolding readOf
 reads-refused accepted x a b c d e h = absurd (h e)
-reads-refused (refused k) x a b c d e h = record { answer = ap Refused e; hash1 = refl; hash2 = refl; secret = refl; uv = refl }
+reads-refused (refused k) x a b c d e h = record { answer = ap refusedAs e; hash1 = refl; hash2 = refl; secret = refl; uv = refl }
 
 pub reads-accepted : (v : Verdict) {x : Reading} {r : code.Reading} {a b c d s t u w : List ℕ} → v ≡ accepted → Reads x r a b c d s t u w → Reads (readOf v x) r a b c d s t u w
 unfolding readOf
@@ -111,7 +112,7 @@ module _ (key : List ℕ) (l : Lengths) (x y : List ℕ) {r : code.Reading} {a b
 
       plain : (n : ℕ) → r ≡ Refused n → a ≡ b → c ≡ d → s ≡ t → u ≡ v
           → Reads (readOf (refused n) (finding (keyOf key) (partsOf x) (partsOf y))) r a b c d s t u v
-      plain n er ea ec es eu = record { answer = er; hash1 = sym ea; hash2 = sym ec; secret = sym es; uv = sym eu }
+      plain n er ea ec es eu = record { answer = ap means er; hash1 = sym ea; hash2 = sym ec; secret = sym es; uv = sym eu }
 
   module _ (good : first (keyChecks (keyOf key) key) ≡ accepted) where
     pub room-refused : r ≡ Refused 11 → a ≡ b → c ≡ d → s ≡ t → u ≡ v → enough (keyOf key) l ≡ false → Reads (pair key l x y) r a b c d s t u v
@@ -119,7 +120,7 @@ module _ (key : List ℕ) (l : Lengths) (x y : List ℕ) {r : code.Reading} {a b
     room-refused er ea ec es eu e =
         subst (λ (z : Verdict). Reads (readOf z (finding (keyOf key) (partsOf x) (partsOf y))) r a b c d s t u v)
         (sym (first-more (keyChecks (keyOf key) key) _ good ∙ first-hit (not (enough (keyOf key) l)) 11 (forkChecks-of) (not-of-false e)))
-        (record { answer = er; hash1 = sym ea; hash2 = sym ec; secret = sym es; uv = sym eu })
+        (record { answer = ap means er; hash1 = sym ea; hash2 = sym ec; secret = sym es; uv = sym eu })
       where
         forkChecks-of : List Check
         forkChecks-of =

@@ -2,25 +2,24 @@
 -- Assumes nothing.
 use Prim.Native.Nat.{ℕ, zero, suc, _+_, _%_, _<_}
 use mathlib.Core.Path.{_≡_, refl, sym, _∙_, ap, subst}
-use mathlib.Core.Bool.{Bool, true, false, not}
+use mathlib.Core.Bool.{Bool, true, false}
 use mathlib.Core.List.{List, [], _++_}
 use native.Mathlib.Omega.{arith}
-use borrow.Author.Tests.{eqb-false, eq-eqb, lt-ltb}
-use lib.Dec.{eqb, ltb}
+use borrow.Author.Tests.{eqb-false}
 use lib.ListN.{length, getD, take}
-use Rattle.lists.specs.Index.{pick, cat, every, same}
+use Rattle.lists.specs.Index.{pick, same}
 use Rattle.lists.specs.Check.{accepted, first}
 use Rattle.lists.specs.CatLaws.{cat-ext}
-use Rattle.lists.specs.TestLaws.{Clean, clean, cleared, clean-left, clean-right, clean-append, cat-clean, every-all, same-of, pick-true, pick-false}
+use Rattle.lists.specs.TestLaws.{clean, clean-left, clean-right, pick-true, pick-false}
 use Rattle.numbers.specs.Sum.{sum}
 use Rattle.protocol.specs.Key.{Key, keyOf, keyChecks}
 use Rattle.protocol.specs.Shares.{H, input, View, Γ, Γin, hin, Ωin, Πin, Ψin, o, dealt}
-use Rattle.protocol.specs.Prover.{opened, kept, hiddenOf, proverView, master, hΓin, hπin, hψin, message1, message5, checks7}
+use Rattle.protocol.specs.Prover.{opened, kept, proverView, master, hΓin, hπin, hψin, message1, message5, checks7}
 use Rattle.protocol.specs.Transcript.{Parts, sizes, list, transcript}
 use Rattle.protocol.specs.Honest.{honestParts}
-use Rattle.protocol.specs.Judge.{hidden, givenCount, replySize, given, ΩAt, hπAt, openedView, keptView, view, goodNumbers, formChecks, executionChecks, hashChecks, partsChecks, runChecks, judge}
-use Rattle.protocol.specs.Accepts.{GoodKey}
-use Rattle.protocol.proofs.KeyFacts.{good}
+use Rattle.protocol.specs.Judge.{hidden, hidesN, replySize, ΩAt, hπAt, openedView, keptView, view, judge}
+use Rattle.protocol.specs.Accepts.{GoodKey, GoodParts, GoodValues}
+use Rattle.protocol.proofs.Facts.{key-facts, E-rising, E-within, hidden-from, hidden-to, accepted-by}
 use Rattle.protocol.proofs.Opened.{E-length}
 use Rattle.protocol.proofs.HonestSum.{dealt-zero}
 use Rattle.protocol.proofs.Sees.{Sees, sees-hin, sees-Ωin, sees-Πin, sees-Ψin, sees-sum}
@@ -49,41 +48,14 @@ module _ (K : Key) (seeds secret E κ L hid : List ℕ) (G : GoodKey K) (I : Val
       message7-length K seeds secret E L hid (I .E-good) (I .hidden-good) κ (I .κ-long)
       ∙ ap (λ x. 16 + x) (sym (sizes-are K seeds secret E κ L hid G I (K .M)))
 
-  numbers-good : goodNumbers K P ≡ true
-  unfolding goodNumbers
-  numbers-good = every-all (K .M) _ (λ e h. go e h (opened E e) refl)
-    where
-      go : (e : ℕ) → e < K .M → (t : Bool) → opened E e ≡ t → pick t true (every (givenCount K P e) (λ j. ltb (given K P e j) (K .q))) ≡ true
-      go e h true c = refl
-      go e h false c = every-all (givenCount K P e) _ (λ j y. lt-ltb _ _ (given-lt K seeds secret E κ L hid G I e h c j y))
-
-  form-clean : Clean (formChecks K P)
-  unfolding formChecks
-  form-clean = (ap not (I .E-good), (ap not (I .hidden-good), (ap not (eq-eqb _ _ seven-long), (ap not numbers-good, tt))))
-
   -- 16, 15
   whole-zero : (e : ℕ) → sum (K .N) (o K (whole e) L) % K .q ≡ 0
   unfolding proverView
   whole-zero e = dealt-zero K e (master K seeds secret e) (λ k. getD secret k 0) (G .q) (G .N) L (I .solution)
 
-  execution-clean : (e : ℕ) → e < K .M → opened E e ≡ false → Clean (executionChecks K P e)
-  unfolding executionChecks hidden keptView
-  execution-clean e h c = (
-    ap not (Ω-same (eqb (suc (hiddenOf E hid e)) (K .N)) refl),
-    (ap not (eq-eqb _ _ (ap (λ x. x % K .q) (sees-sum K L _ _ (seen e h c)) ∙ whole-zero e)), tt),
-  )
-    where
-      Ω-same : (t : Bool) → eqb (suc (hiddenOf E hid e)) (K .N) ≡ t → pick t true (same (ΩAt K P e) (H (Ωin K (keptView K P e)))) ≡ true
-      Ω-same true y = refl
-      Ω-same false y =
-          same-of (Ω-at K seeds secret E κ L hid G I e h c ∙ ap H (sym (sees-Ωin K L _ _ (seen e h c) (eqb-false _ _ y))))
-
-  executions-clean : Clean (cat (K .M) (λ e. pick (opened E e) [] (executionChecks K P e)))
-  executions-clean = cat-clean (K .M) _ (λ e h. go e h (opened E e) refl)
-    where
-      go : (e : ℕ) → e < K .M → (t : Bool) → opened E e ≡ t → Clean (pick t [] (executionChecks K P e))
-      go e h true c = tt
-      go e h false c = execution-clean e h c
+  Ω-same : (e : ℕ) → e < K .M → opened E e ≡ false → hidesN K P e ≡ false → ΩAt K P e ≡ H (Ωin K (keptView K P e))
+  unfolding hidden keptView
+  Ω-same e h c n = Ω-at K seeds secret E κ L hid G I e h c ∙ ap H (sym (sees-Ωin K L _ _ (seen e h c) (eqb-false _ _ n)))
 
   -- 17, 18, 19
   pub view-kept : (e : ℕ) → opened E e ≡ false → view K P e ≡ keptView K P e
@@ -148,16 +120,6 @@ module _ (K : Key) (seeds secret E κ L hid : List ℕ) (G : GoodKey K) (I : Val
   unfolding message5
   hψ-same = sym (ap H hψin-is)
 
-  hash-clean : Clean (hashChecks K P)
-  unfolding hashChecks
-  hash-clean = (ap not (same-of hΓ-same), (ap not (same-of hπ-same), (ap not (same-of hψ-same), tt)))
-
-  parts-clean : Clean (partsChecks K P)
-  unfolding partsChecks
-  parts-clean =
-      clean-append (formChecks K P ++ cat (K .M) (λ e. pick (opened E e) [] (executionChecks K P e))) (hashChecks K P)
-      (clean-append (formChecks K P) _ form-clean executions-clean) hash-clean
-
   -- 12
   six-long : (i : ℕ) → i < 6 → length (item P i) ≡ getD (sizes K) i 0
   unfolding list sizes
@@ -186,21 +148,50 @@ module _ (K : Key) (seeds secret E κ L hid : List ℕ) (G : GoodKey K) (I : Val
         G .τ-below,
       )
 
-  run-clean : Clean (runChecks K (transcript P))
-  unfolding runChecks
-  run-clean =
-      (ap not (header-good P small K six-long), subst (λ (R : Parts). Clean (partsChecks K R)) (sym (parts-back P small)) parts-clean)
+  -- what the judge asks of the parts, and of the values
+  parts-good : GoodParts K P
+  parts-good =
+      record {
+        long1 = message1-length K seeds;
+        long2 = E-length K E (I .E-good);
+        long3 = message3-length K seeds secret E κ (I .seeds-long) (I .E-good);
+        long4 = I .L-long;
+        long5 = message5-length K seeds secret E κ L;
+        long6 = hidden-length K hid (I .hidden-good);
+        long7 = seven-long;
+        E-rises = λ j h. E-rising K E (I .E-good) j (omega (arith, E-length K E (I .E-good)));
+        E-most = λ j h. E-within K E (I .E-good) j (omega (arith, E-length K E (I .E-good)));
+        hidden-least = λ j h. hidden-from K hid (I .hidden-good) j (omega (arith, hidden-length K hid (I .hidden-good)));
+        hidden-most = λ j h. hidden-to K hid (I .hidden-good) j (omega (arith, hidden-length K hid (I .hidden-good)));
+        below = given-lt K seeds secret E κ L hid G I;
+      }
+
+  values-good : GoodValues K P
+  values-good =
+      record {
+        Ω = Ω-same;
+        zero-sum = λ e h c. ap (λ x. x % K .q) (sees-sum K L _ _ (seen e h c)) ∙ whole-zero e;
+        hΓ = hΓ-same;
+        hπ = hπ-same;
+        hψ = hψ-same;
+      }
 
 -- Every transcript made of the prover's messages, for inputs that its checks pass, is accepted.
 pub honest-accepted : (key seeds secret E κ L hid : List ℕ)
     → first (keyChecks (keyOf key) key ++ checks7 (keyOf key) seeds secret E κ L hid) ≡ accepted
     → judge key (transcript (honestParts (keyOf key) seeds secret E κ L hid)) ≡ accepted
-unfolding judge
 honest-accepted key seeds secret E κ L hid e =
     let c = clean (keyChecks (keyOf key) key ++ checks7 (keyOf key) seeds secret E κ L hid) e in
-    let k = clean-left (keyChecks (keyOf key) key) (checks7 (keyOf key) seeds secret E κ L hid) c in
-    let G : GoodKey (keyOf key) = good (keyOf key) key k in
-    cleared _
-    (clean-append (keyChecks (keyOf key) key) _ k
-    (run-clean (keyOf key) seeds secret E κ L hid G
-    (valid (keyOf key) seeds secret E κ L hid G (clean-right (keyChecks (keyOf key) key) _ c))))
+    let k = key-facts (keyOf key) key (clean-left (keyChecks (keyOf key) key) (checks7 (keyOf key) seeds secret E κ L hid) c) in
+    let G : GoodKey (keyOf key) = k .1 in
+    let I = valid (keyOf key) seeds secret E κ L hid G (clean-right (keyChecks (keyOf key) key) _ c) in
+    let P = honestParts (keyOf key) seeds secret E κ L hid in
+    let size = small (keyOf key) seeds secret E κ L hid G I in
+    accepted-by key (transcript P)
+    (record {
+      long = k .0;
+      good-key = G;
+      good-header = header-good P size (keyOf key) (six-long (keyOf key) seeds secret E κ L hid G I);
+      good-parts = subst (GoodParts (keyOf key)) (sym (parts-back P size)) (parts-good (keyOf key) seeds secret E κ L hid G I);
+      good-values = subst (GoodValues (keyOf key)) (sym (parts-back P size)) (values-good (keyOf key) seeds secret E κ L hid G I);
+    })

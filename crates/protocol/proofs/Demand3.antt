@@ -3,7 +3,7 @@
 -- Assumes nothing.
 use Prim.Native.Nat.{ℕ, suc, _+_, _*_, _-_, _%_, _≤_, _<_}
 use mathlib.Core.Path.{_≡_, refl, sym, ap, ap₂, _∙_, subst}
-use mathlib.Core.Logic.{_⊎_, inl, inr}
+use mathlib.Core.Logic.{_⊎_, inl, inr, ⊎-elim}
 use mathlib.Core.Bool.{Bool, true, false, not, false≢true}
 use mathlib.Core.List.{List, [], _∷_, _++_}
 use native.Mathlib.Nat.{mod-eq-of-lt, mod-lt}
@@ -13,25 +13,27 @@ use lib.ListN.{length, getD, length-append, List·getD-append}
 use lib.Seq.{ext-getD, getD-append-add}
 use borrow.Author.Tests.{ltb-true, ltb-false, leb-true, le-leb, eqb-true, eqb-false, eq-eqb, ne-eqb, not-true, not-false}
 use Rattle.lists.specs.Tab.{tab, tab-length, tab-at}
+use Rattle.lists.specs.Bytes.{num}
+use Rattle.lists.specs.ByteList.{Bytes, bytes-part}
 use Rattle.lists.specs.Index.{pick, count, least, same, holds}
 use Rattle.lists.specs.Check.{Verdict, accepted, refused, first}
-use Rattle.lists.specs.TestLaws.{decide, clash, not-of-true, not-of-false, pick-false, every-all, every-at, count-not, count-place, count-members, least-holds, least-before, least-some, least-all, same-of, same-eq, same-differ, differ-same, holds-each, each-holds, Clean, clean, cleared, first-more, first-miss, first-nil}
-use Rattle.numbers.specs.Mod.{Cong, cong-rest}
+use Rattle.lists.specs.TestLaws.{decide, clash, not-of-true, not-of-false, pick-false, every-all, every-at, count-not, count-place, count-members, least-holds, least-before, least-some, least-all, same-of, same-eq, same-differ, differ-same, holds-each, each-holds, Clean, clean, clean-append, cleared, first-more}
+use Rattle.numbers.specs.Mod.{Cong, cong-rest, sub-lt}
 use Rattle.numbers.specs.Sum.{sum, sum-ext}
 use Rattle.numbers.specs.Inverse.{q-positive}
 use Rattle.numbers.specs.Output.{uOf, vOf, Solves, zero-solves}
 use Rattle.protocol.specs.Key.{Key, A, t, keptCount, keyOf, keyChecks}
-use Rattle.protocol.specs.Shares.{View, sq, coefficient, s, b, d, o, Ψin}
+use Rattle.protocol.specs.Shares.{View, isHidden, coefficient, s, b, d, o, Ψin}
 use Rattle.protocol.specs.Prover.{opened, place, hiddenOf, solves, binary}
-use Rattle.protocol.specs.Transcript.{Parts, partsOf}
+use Rattle.protocol.specs.Transcript.{Parts, partAt, partsOf}
 use Rattle.protocol.specs.Judge.{hidden, κ, keptView, view, runChecks, judge}
-use Rattle.protocol.specs.Pair.{Reading, refusal, collision, secret, square, errors, execution, comparisons, source, joined, uv, wrongSquare, values, sameFront, finding, isAccepted, Lengths, enough, pairChecks, readOf, pair}
+use Rattle.protocol.specs.Pair.{Comparison, Reading, collision, secret, square, errors, firstDifferent, execution, comparisons, source, joined, joinedBits, uv, wrongSquare, values, sameFront, finding, isAccepted, Lengths, pairChecks, readOf, pair}
 use Rattle.protocol.specs.Accepts.{GoodKey, GoodParts}
-use Rattle.protocol.specs.Demand3.{Forked, Equal, Solution, Works, Secret, Square, Errors, Truth, Finding, Demand3}
+use Rattle.protocol.specs.Demand3.{Forked, Equal, Solution, Works, Secret, Square, Errors, Truth, Finding, LongEnough, Demand3}
 use Rattle.protocol.proofs.Facts.{accepts, judge-key, judge-run}
 use Rattle.protocol.proofs.Demand3Lengths.{view-kept}
 use Rattle.protocol.proofs.Demand3Links.{first-true, Both, v-sized, w-sized, v-hid, w-hid, closed′, chain, all-equal}
-use Rattle.protocol.proofs.Pairing.{Forks, combination-zero}
+use Rattle.protocol.proofs.Pairing.{Forks, Source, combination-zero}
 
 -- ---- the execution
 
@@ -142,6 +144,15 @@ module _ (n m : ℕ) (f g : ℕ → ℕ) where
   join-right k h =
       ap (λ (z : ℕ). getD (tab n f ++ tab m g) (z + k) 0) (sym (tab-length n f)) ∙ getD-append-add (tab n f) (tab m g) k 0 ∙ tab-at m g k h
 
+  join-below : (q : ℕ) → ((l : ℕ) → f l < q) → ((k : ℕ) → g k < q) → (j : ℕ) → j < n + m → getD (tab n f ++ tab m g) j 0 < q
+  join-below q h k j b = go (ltb j n) refl
+    where
+      go : (z : Bool) → ltb j n ≡ z → getD (tab n f ++ tab m g) j 0 < q
+      go true e = subst (λ (x : ℕ). x < q) (sym (join-left j (ltb-true j n e))) (h j)
+      go false e =
+          let i : n + (j - n) ≡ j = omega (arith, ltb-false j n e) in
+          subst (λ (x : ℕ). x < q) (sym (join-right (j - n) (omega (arith, ltb-false j n e))) ∙ ap (λ (x : ℕ). getD (tab n f ++ tab m g) x 0) i) (k (j - n))
+
   -- All entries are 0, or there is one that is not.
   join-nonzero : (((l : ℕ) → l < n → f l ≡ 0) → ((k : ℕ) → k < m → g k ≡ 0) → ⊥)
       → (j : ℕ) × (j < n + m) × (getD (tab n f ++ tab m g) j 0 ≡ 0 → ⊥)
@@ -184,16 +195,15 @@ module _ (K : Key) (P R : Parts) (key : GoodKey K) (e : ℕ) where
         binary = λ k h. subst (λ (z : ℕ). z ≤ 1) (mod-eq-of-lt (joined-lt s k)) (S .binary k h);
       }
 
-  -- what the test of wrongSquare says
-  square-right : (k : ℕ) → not (eqb (joined K P R e d k) (sq (joined K P R e b k) % K .q)) ≡ false
-      → Cong (K .q) (joined K P R e d k) (joined K P R e b k * joined K P R e b k)
-  square-right k h = record { same = mod-eq-of-lt (joined-lt d k) ∙ eqb-true _ _ (not-false _ h) }
+-- A number below q is compared with another's remainder.
+rest-same : {q x y : ℕ} → x < q → not (eqb x (y % q)) ≡ false → Cong q x y
+rest-same h e = record { same = mod-eq-of-lt h ∙ eqb-true _ _ (not-false _ e) }
 
-  square-wrong : (k : ℕ) → not (eqb (joined K P R e d k) (sq (joined K P R e b k) % K .q)) ≡ true
-      → Cong (K .q) (joined K P R e d k) (joined K P R e b k * joined K P R e b k) → ⊥
-  square-wrong k h c = eqb-false _ _ (not-true _ h) (cong-rest (joined-lt d k) c)
+rest-differs : {q x y : ℕ} → x < q → not (eqb x (y % q)) ≡ true → Cong q x y → ⊥
+rest-differs h e c = eqb-false _ _ (not-true _ e) (cong-rest h c)
 
 -- ---- the finding
+
 module _ (K : Key) (P R : Parts) (a : Both K P R) (e : ℕ) (at : Works K P R e)
     (q : Equal (comparisons K P R e)) where
   -- the two views, where all comparisons are equal
@@ -208,7 +218,6 @@ module _ (K : Key) (P R : Parts) (a : Both K P R) (e : ℕ) (at : Works K P R e)
         execution =
             ap (λ (v : View). v .ex) (view-kept K P (a .p .parts) e within kept)
             ∙ sym (ap (λ (v : View). v .ex) (view-kept K R (a .r .parts) e within kept′));
-        differ = λ w. at .differ (sym (v-hid K P R a e within kept) ∙ w ∙ w-hid K P R a e within kept);
         v-sized = v-sized K P R a e within kept;
         w-sized = w-sized K P R a e within kept;
         zero-sum =
@@ -219,6 +228,18 @@ module _ (K : Key) (P R : Parts) (a : Both K P R) (e : ℕ) (at : Works K P R e)
         same-Π = z .1 .0;
         same-Ψ = subst (λ (L : List ℕ). Ψin K (view K P e) (κ K P) (P .p4) ≡ Ψin K (view K R e) (κ K R) L) (sym (a .front .same4)) (z .1 .1 .1 .0);
       }
+
+  -- Each party's values come from a view in which it is open: the second hides another party than the first.
+  shows : (i : ℕ) → i < K .N → Source K (view K P e) (view K R e) i (source K P R e i)
+  unfolding source
+  shows i h =
+      ⊎-elim
+      (λ z. rw z (record { one = inr (refl, ne-eqb i (view K R e .hid) (λ q. hid-differ (sym (eqb-true i (view K P e .hid) z) ∙ q))) }))
+      (λ z. rw z (record { one = inl (refl, z) }))
+      (decide (isHidden K (view K P e) i))
+    where
+      hid-differ : view K P e .hid ≡ view K R e .hid → ⊥
+      hid-differ q = at .differ (sym (v-hid K P R a e (at .within) (at .kept)) ∙ q ∙ w-hid K P R a e (at .within) (at .kept))
 
   ex-is : view K P e .ex ≡ e
   unfolding keptView
@@ -233,22 +254,22 @@ module _ (K : Key) (P R : Parts) (a : Both K P R) (e : ℕ) (at : Works K P R e)
   -- the sum over the parties
   errors-zero : ((k : ℕ) → k < K .m → Cong (K .q) (joined K P R e d k) (joined K P R e b k * joined K P R e b k))
       → (sum (K .n) (λ l. coefficient K (P .p4) e l * u l) + sum (K .m) (λ k. coefficient K (P .p4) e (K .n + k) * v k)) % K .q ≡ 0
-  unfolding joined source
+  unfolding joined
   errors-zero h =
       subst
       (λ (x : ℕ). (sum (K .n) (λ l. coefficient K (P .p4) x l * u l) + sum (K .m) (λ k. coefficient K (P .p4) x (K .n + k) * v k)) % K .q ≡ 0)
-      ex-is (combination-zero K (a .key) (P .p4) (view K P e) (view K R e) forks h)
+      ex-is (combination-zero K (a .key) (P .p4) (view K P e) (view K R e) forks (source K P R e) shows h)
 
-  secret-true : holds (solves K (joined K P R e s) ∷ binary K (joined K P R e s) ∷ []) ≡ true → Secret K P R e (tab (K .m) (joined K P R e s))
+  secret-true : holds (solves K (joined K P R e s) ∷ binary K (joined K P R e s) ∷ []) ≡ true → Secret K P R e (joinedBits K P R e)
   secret-true h =
+      let read : (k : ℕ) → k < K .m → getD (joinedBits K P R e) k 0 ≡ joined K P R e s k = λ k b. tab-at (K .m) _ k b in
       record {
         works = at;
         no-collision = q;
-        long = tab-length (K .m) (joined K P R e s);
-        read = λ k b. tab-at (K .m) (joined K P R e s) k b;
+        long = tab-length (K .m) _;
+        read = read;
         solution =
-            solution-ext K (joined K P R e s) (λ k. getD (tab (K .m) (joined K P R e s)) k 0)
-            (λ k b. sym (tab-at (K .m) (joined K P R e s) k b)) (solution-of K (joined K P R e s) h);
+            solution-ext K (joined K P R e s) (λ k. getD (joinedBits K P R e) k 0) (λ k b. sym (read k b)) (solution-of K (joined K P R e s) h);
       }
 
   module _ (none : holds (solves K (joined K P R e s) ∷ binary K (joined K P R e s) ∷ []) ≡ false) where
@@ -266,20 +287,23 @@ module _ (K : Key) (P R : Parts) (a : Both K P R) (e : ℕ) (at : Works K P R e)
           column = h;
           b-read = refl;
           d-read = refl;
-          wrong = square-wrong K P R (a .key) e _ (least-holds (K .m) _ h);
-          smallest = λ j l. square-right K P R (a .key) e j (least-before (K .m) _ j l);
+          b-fits = joined-lt K P R (a .key) e b (wrongSquare K P R e);
+          d-fits = joined-lt K P R (a .key) e d (wrongSquare K P R e);
+          wrong = rest-differs (joined-lt K P R (a .key) e d (wrongSquare K P R e)) (least-holds (K .m) _ h);
+          smallest = λ j l. rest-same (joined-lt K P R (a .key) e d j) (least-before (K .m) _ j l);
         }
 
     errors-true : K .m ≤ wrongSquare K P R e → Errors K P R e (uv K P R e)
     unfolding uv wrongSquare uOf vOf
     errors-true h =
-        let right : (k : ℕ) → k < K .m → Cong (K .q) (joined K P R e d k) (joined K P R e b k * joined K P R e b k) = λ k l. square-right K P R (a .key) e k (least-all (K .m) _ h k l) in
+        let right : (k : ℕ) → k < K .m → Cong (K .q) (joined K P R e d k) (joined K P R e b k * joined K P R e b k) = λ k l. rest-same (joined-lt K P R (a .key) e d k) (least-all (K .m) _ h k l) in
         record {
           works = at;
           no-collision = q;
           no-secret = no-secret;
           squares = right;
           long = join-long (K .n) (K .m) u v;
+          fits = join-below (K .n) (K .m) u v (K .q) (λ l. sub-lt (positive K P R (a .key) e) _ _) (λ k. sub-lt (positive K P R (a .key) e) _ _);
           u-read = λ l b. join-left (K .n) (K .m) u v l b;
           v-read = λ k b. join-right (K .n) (K .m) u v k b;
           not-zero = join-nonzero (K .n) (K .m) u v (λ x y. no-secret (zero-solution K P R (a .key) e x y));
@@ -302,7 +326,7 @@ module _ (K : Key) (P R : Parts) (a : Both K P R) (at : Works K P R (execution K
       go : (t : Bool) → holds (solves K (joined K P R (execution K P R) s) ∷ binary K (joined K P R (execution K P R) s) ∷ []) ≡ t
           → (z : Bool) → ltb (wrongSquare K P R (execution K P R)) (K .m) ≡ z
           → Truth K P R
-          (pick t (secret (tab (K .m) (joined K P R (execution K P R) s)))
+          (pick t (secret (joinedBits K P R (execution K P R)))
           (pick z
           (square (suc (execution K P R)) (suc (wrongSquare K P R (execution K P R)))
           (joined K P R (execution K P R) b (wrongSquare K P R (execution K P R)))
@@ -317,16 +341,48 @@ module _ (K : Key) (P R : Parts) (a : Both K P R) (at : Works K P R (execution K
   finding-true =
       first-true (Truth K P R) (suc (execution K P R)) (comparisons K P R (execution K P R)) (values K P R (execution K P R))
       (λ c n k f.
-      record { works = at; first = f; differ = n; one-hash = k .one-hash; one-length = k .one-length; short = k .short })
+      record {
+        works = at;
+        first = f;
+        bytes-one = k .bytes-one;
+        bytes-two = k .bytes-two;
+        differ = n;
+        one-hash = k .one-hash;
+        one-length = k .one-length;
+        short = k .short;
+      })
       (chain K P R a (execution K P R) (at .within) (at .kept)) values-true
 
 -- ---- the verdict
-truth-finding : (K : Key) (P R : Parts) (x : Reading) → Truth K P R x → Finding x
-truth-finding K P R (refusal n) h = h
-truth-finding K P R (collision kind e party one two) h = tt
-truth-finding K P R (secret bits) h = tt
-truth-finding K P R (square e k bk dk) h = tt
-truth-finding K P R (errors e list) h = tt
+
+-- What the reader comes to is a finding and no refusal.
+different-finding : (e : ℕ) (l : List Comparison) (r : Reading) → Finding r → Finding (firstDifferent e l r)
+unfolding firstDifferent
+different-finding e [] r h = h
+different-finding e (c ∷ l) r h = go (same (c .one) (c .two)) (different-finding e l r h)
+  where
+    go : (t : Bool) → Finding (firstDifferent e l r)
+        → Finding (pick t (firstDifferent e l r) (collision (c .kind) e (c .party) (c .one) (c .two)))
+    go true z = z
+    go false z = tt
+
+values-finding : (K : Key) (P R : Parts) (e : ℕ) → Finding (values K P R e)
+unfolding values
+values-finding K P R e =
+    go (holds (solves K (joined K P R e s) ∷ binary K (joined K P R e s) ∷ [])) (ltb (wrongSquare K P R e) (K .m))
+  where
+    go : (t z : Bool) → Finding
+        (pick t (secret (joinedBits K P R e))
+        (pick z (square (suc e) (suc (wrongSquare K P R e)) (joined K P R e b (wrongSquare K P R e)) (joined K P R e d (wrongSquare K P R e)))
+        (errors (suc e) (uv K P R e))))
+    go true z = tt
+    go false true = tt
+    go false false = tt
+
+is-finding : (K : Key) (P R : Parts) → Finding (finding K P R)
+unfolding finding
+is-finding K P R =
+    different-finding (suc (execution K P R)) (comparisons K P R (execution K P R)) (values K P R (execution K P R)) (values-finding K P R (execution K P R))
 
 pub is-accepted : (v : Verdict) → isAccepted v ≡ true → v ≡ accepted
 unfolding isAccepted
@@ -337,16 +393,21 @@ accepted-is : (v : Verdict) → v ≡ accepted → isAccepted v ≡ true
 unfolding isAccepted
 accepted-is v e = ap isAccepted e
 
+-- Part 7 of a transcript of bytes.
+last-bytes : (x : List ℕ) → Bytes x → Bytes (partsOf x .p7)
+unfolding partsOf partAt
+last-bytes x b = bytes-part x (num x 12) (num x 13) b
+
 module _ (key x y : List ℕ) where
-  forked-true : Forked key x y → Truth (keyOf key) (partsOf x) (partsOf y) (finding (keyOf key) (partsOf x) (partsOf y))
-  forked-true f =
+  forked-true : Bytes x → Bytes y → Forked key x y → Truth (keyOf key) (partsOf x) (partsOf y) (finding (keyOf key) (partsOf x) (partsOf y))
+  forked-true bx by f =
       let a = accepts key x (f .first) in
       let c = accepts key y (f .second) in
       finding-true (keyOf key) (partsOf x) (partsOf y)
       (record {
         key = a .good-key;
-        p = record { parts = a .good-parts; values = a .good-values };
-        r = record { parts = c .good-parts; values = c .good-values };
+        p = record { parts = a .good-parts; values = a .good-values; bytes = last-bytes x bx };
+        r = record { parts = c .good-parts; values = c .good-values; bytes = last-bytes y by };
         front = record { same1 = f .same1; same2 = f .same2; same3 = f .same3; same4 = f .same4; same5 = f .same5 };
       })
       (works (keyOf key) (partsOf x) (partsOf y) (a .good-key) (a .good-parts) (c .good-parts) (f .same2) (f .differ6))
@@ -376,16 +437,21 @@ module _ (key x y : List ℕ) where
         each-holds _ (same-of (f .same1), (same-of (f .same2), (same-of (f .same3), (same-of (f .same4), (same-of (f .same5), tt)))))
 
     -- The transcripts fork, and the lent lists are long enough: no number applies.
-    forked-accepted : enough (keyOf key) l ≡ true → Forked key x y → first (pairChecks key l x y) ≡ accepted
+    forked-accepted : LongEnough key l → Forked key x y → first (pairChecks key l x y) ≡ accepted
     unfolding pairChecks
     forked-accepted h f =
-        first-more (keyChecks (keyOf key) key) _ (cleared _ (judge-key key x (f .first)))
-        ∙ first-miss _ 11 _ (not-of-true h)
-        ∙ first-miss _ 20 _ (not-of-true (accepted-is _ (judge-run key x (f .first))))
-        ∙ first-miss _ 21 _ (not-of-true (accepted-is _ (judge-run key y (f .second))))
-        ∙ first-miss _ 22 _ (not-of-true (same-front f))
-        ∙ first-miss _ 23 _ (differ-same _ _ (f .differ6))
-        ∙ first-nil
+        let read : Clean (keyChecks (keyOf key) key) = judge-key key x (f .first) in
+        cleared (pairChecks key l x y)
+        (clean-append (keyChecks (keyOf key) key) _ read (
+          not-of-true (h (cleared (keyChecks (keyOf key) key) read)),
+          (
+            not-of-true (accepted-is _ (judge-run key x (f .first))),
+            (
+              not-of-true (accepted-is _ (judge-run key y (f .second))),
+              (not-of-true (same-front f), (differ-same _ _ (f .differ6), tt)),
+            ),
+          ),
+        ))
 
     finding-forked : Finding (pair key l x y) → Forked key x y
     unfolding pair readOf
@@ -395,17 +461,25 @@ module _ (key x y : List ℕ) where
         go accepted e z = forked-of (clean _ e)
         go (refused n) e z = absurd z
 
-    pub forked-pair : enough (keyOf key) l ≡ true → Forked key x y → pair key l x y ≡ finding (keyOf key) (partsOf x) (partsOf y)
+    pub forked-pair : LongEnough key l → Forked key x y → pair key l x y ≡ finding (keyOf key) (partsOf x) (partsOf y)
     unfolding pair readOf
     forked-pair h f = ap (λ (v : Verdict). readOf v (finding (keyOf key) (partsOf x) (partsOf y))) (forked-accepted h f)
 
-    forked-truth : enough (keyOf key) l ≡ true → Forked key x y → Truth (keyOf key) (partsOf x) (partsOf y) (pair key l x y)
-    forked-truth h f = subst (Truth (keyOf key) (partsOf x) (partsOf y)) (sym (forked-pair h f)) (forked-true f)
+    -- A finding is what the reader comes to.
+    found-pair : Finding (pair key l x y) → pair key l x y ≡ finding (keyOf key) (partsOf x) (partsOf y)
+    unfolding pair readOf
+    found-pair h = go (first (pairChecks key l x y)) h
+      where
+        go : (v : Verdict) → Finding (readOf v (finding (keyOf key) (partsOf x) (partsOf y)))
+            → readOf v (finding (keyOf key) (partsOf x) (partsOf y)) ≡ finding (keyOf key) (partsOf x) (partsOf y)
+        go accepted z = refl
+        go (refused n) z = absurd z
 
-    pub demand-3 : enough (keyOf key) l ≡ true → Demand3 key l x y
-    demand-3 h =
+    pub demand-3 : Demand3 key l x y
+    demand-3 =
         record {
           only = finding-forked;
-          always = λ f. truth-finding (keyOf key) (partsOf x) (partsOf y) (pair key l x y) (forked-truth h f);
-          true = λ z. forked-truth h (finding-forked z);
+          always = λ h f. subst Finding (sym (forked-pair h f)) (is-finding (keyOf key) (partsOf x) (partsOf y));
+          true = λ bx by z.
+              subst (Truth (keyOf key) (partsOf x) (partsOf y)) (sym (found-pair z)) (forked-true bx by (finding-forked z));
         }

@@ -1,4 +1,5 @@
--- The pair reader's comparisons: wherever the two inputs are the first that differ, they have one hash, one length, and at most 16400 bytes.
+-- The pair reader's comparisons: wherever the two inputs are the first that differ, they are bytes, have one hash and one length, and are at
+-- most 16400 long.
 -- Assumes nothing.
 use Prim.Native.Nat.{ℕ, zero, suc, _+_, _*_, _-_, _≤_, _<_}
 use mathlib.Core.Path.{_≡_, refl, sym, ap, ap₂, _∙_, subst}
@@ -11,6 +12,7 @@ use lib.Dec.{eqb}
 use lib.ListN.{length}
 use borrow.Author.Tests.{eqb-false, ne-eqb, not-true}
 use Rattle.lists.specs.Index.{pick, cat, count, same, part}
+use Rattle.lists.specs.ByteList.{Bytes, bytes-take}
 use Rattle.lists.specs.TestLaws.{pick-false, count-le, same-eq, same-differ, holds-each}
 use Rattle.lists.specs.Inj.{cat-inj}
 use Rattle.numbers.specs.Inverse.{N-least, N-most}
@@ -23,12 +25,15 @@ use Rattle.protocol.specs.Judge.{hidden, hidesN, κ, ΩAt, hπAt, keptVi
 use Rattle.protocol.specs.Pair.{Comparison, compare, Reading, collision, firstDifferent, openInBoth, comparisons}
 use Rattle.protocol.specs.Accepts.{GoodKey, GoodParts, GoodValues}
 use Rattle.protocol.specs.Demand3.{First, Equal}
+use Rattle.protocol.proofs.Demand3Bytes.{ByteView, hin-bytes, Γin-bytes, Ωin-bytes, Πin-bytes, Ψin-bytes, hΓin-bytes, hπin-bytes, hψin-bytes, kept-bytes}
 use Rattle.protocol.proofs.Demand3Lengths.{Sized, Γ-length, hin-length, Γin-length, Ωin-length, Πin-length, Ψin-length, hΓin-length, hπin-length, hψin-length, kept-sized, view-kept}
 
 -- ---- lists of comparisons
 
 -- What the two inputs of a comparison have in common, whether or not they are equal.
 pub record Link (c : Comparison) : Type 0 where
+  pub bytes-one : Bytes (c .one)
+  pub bytes-two : Bytes (c .two)
   pub one-hash : H (c .one) ≡ H (c .two)
   pub one-length : length (c .one) ≡ length (c .two)
   pub short : length (c .one) ≤ 16400
@@ -85,6 +90,7 @@ pub record Front (P R : Parts) : Type 0 where
 pub record Good (K : Key) (P : Parts) : Type 0 where
   pub parts : GoodParts K P
   pub values : GoodValues K P
+  pub bytes : Bytes (P .p7)
 
 pub record Both (K : Key) (P R : Parts) : Type 0 where
   pub key : GoodKey K
@@ -96,6 +102,8 @@ module _ (K : Key) (P R : Parts) (a : Both K P R) where
   hΓ-link : Link (compare 1 0 (hΓin K (view K P)) (hΓin K (view K R)))
   hΓ-link =
       record {
+        bytes-one = hΓin-bytes K (view K P);
+        bytes-two = hΓin-bytes K (view K R);
         one-hash = sym (a .p .values .hΓ) ∙ a .front .same1 ∙ a .r .values .hΓ;
         one-length = hΓin-length K (view K P) ∙ sym (hΓin-length K (view K R));
         short = omega (arith, hΓin-length K (view K P), a .key .M-most);
@@ -112,6 +120,8 @@ module _ (K : Key) (P R : Parts) (a : Both K P R) where
   unfolding hπAt
   hπ-link =
       record {
+        bytes-one = hπin-bytes K (view K P) (P .p2) (κ K P);
+        bytes-two = hπin-bytes K (view K R) (R .p2) (κ K R);
         one-hash = sym (a .p .values .hπ) ∙ ap (λ (x : List ℕ). part x (16 * K .τ + 32 * keptCount K) 32) (a .front .same3) ∙ a .r .values .hπ;
         one-length =
             hπin-length K (view K P) (P .p2) (κ K P) ∙ ap (λ (n : ℕ). 32 * n) kept-same ∙ sym (hπin-length K (view K R) (R .p2) (κ K R));
@@ -121,6 +131,8 @@ module _ (K : Key) (P R : Parts) (a : Both K P R) where
   hψ-link : Link (compare 7 0 (hψin K (view K P) (P .p2) (κ K P) (P .p4)) (hψin K (view K R) (R .p2) (κ K R) (R .p4)))
   hψ-link =
       record {
+        bytes-one = hψin-bytes K (view K P) (P .p2) (κ K P) (P .p4);
+        bytes-two = hψin-bytes K (view K R) (R .p2) (κ K R) (R .p4);
         one-hash = sym (a .p .values .hψ) ∙ a .front .same5 ∙ a .r .values .hψ;
         one-length =
             hψin-length K (view K P) (P .p2) (κ K P) (P .p4) ∙ ap (λ (n : ℕ). 32 * n) kept-same
@@ -153,6 +165,16 @@ module _ (K : Key) (P R : Parts) (a : Both K P R) where
     pub w-sized : Sized K (view K R e)
     w-sized = subst (Sized K) (sym (view-kept K R (a .r .parts) e within closed′)) (kept-sized K R (a .r .parts) e within closed′)
 
+    -- the views' seeds and Γ are bytes, and so is document 01's seed K
+    v-bytes : ByteView (view K P e)
+    v-bytes = subst ByteView (sym (view-kept K P (a .p .parts) e within closed)) (kept-bytes K P (a .p .bytes) e)
+
+    w-bytes : ByteView (view K R e)
+    w-bytes = subst ByteView (sym (view-kept K R (a .r .parts) e within closed′)) (kept-bytes K R (a .r .bytes) e)
+
+    κ-bytes : (Q : Parts) → Bytes (Q .p7) → Bytes (κ K Q)
+    κ-bytes Q b = bytes-take 16 (Q .p7) b
+
     pub v-hid : view K P e .hid ≡ hidden K P e
     unfolding keptView
     v-hid = ap (λ (v : View). v .hid) (view-kept K P (a .p .parts) e within closed)
@@ -165,6 +187,8 @@ module _ (K : Key) (P R : Parts) (a : Both K P R) where
     unfolding hΓin input
     h-link q =
         record {
+          bytes-one = hin-bytes K (view K P e) v-bytes;
+          bytes-two = hin-bytes K (view K R e) w-bytes;
           one-hash =
               cat-inj (K .M) (λ e. H (hin K (view K P e))) (λ e. H (hin K (view K R e)))
               (λ j l. sha256-length (hin K (view K P j)) ∙ sym (sha256-length (hin K (view K R j)))) q e within;
@@ -186,6 +210,8 @@ module _ (K : Key) (P R : Parts) (a : Both K P R) where
     unfolding hin input Γ
     Γ-link q i h z =
         record {
+          bytes-one = Γin-bytes K (view K P e) v-bytes i;
+          bytes-two = Γin-bytes K (view K R e) w-bytes i;
           one-hash =
               sym (pick-false (isHidden K (view K P e) i) (view K P e .Γh) (H (Γin K (view K P e) i)) (open-v i z))
               ∙ cat-inj (K .N) (Γ K (view K P e)) (Γ K (view K R e))
@@ -217,6 +243,8 @@ module _ (K : Key) (P R : Parts) (a : Both K P R) where
     unfolding ΩAt
     Ω-link z =
         record {
+          bytes-one = Ωin-bytes K (view K P e) v-bytes;
+          bytes-two = Ωin-bytes K (view K R e) w-bytes;
           one-hash =
               ap (λ (v : View). H (Ωin K v)) (view-kept K P (a .p .parts) e within closed)
               ∙ sym (a .p .values .Ω e within closed (open-N P (view K P e .hid) v-hid (open-v (K .N - 1) z)))
@@ -240,6 +268,8 @@ module _ (K : Key) (P R : Parts) (a : Both K P R) where
     unfolding hπin input
     Π-link q =
         record {
+          bytes-one = Πin-bytes K (view K P e) (κ K P) (κ-bytes P (a .p .bytes));
+          bytes-two = Πin-bytes K (view K R e) (κ K R) (κ-bytes R (a .r .bytes));
           one-hash = kept-inj (λ e. Πin K (view K P e) (κ K P)) (λ e. Πin K (view K R e) (κ K R)) q e within closed;
           one-length = Πin-length K (view K P e) (κ K P) ∙ sym (Πin-length K (view K R e) (κ K R));
           short =
@@ -255,6 +285,8 @@ module _ (K : Key) (P R : Parts) (a : Both K P R) where
     unfolding hψin input
     Ψ-link q =
         record {
+          bytes-one = Ψin-bytes K (view K P e) (κ K P) (P .p4) (κ-bytes P (a .p .bytes));
+          bytes-two = Ψin-bytes K (view K R e) (κ K R) (R .p4) (κ-bytes R (a .r .bytes));
           one-hash = kept-inj (λ e. Ψin K (view K P e) (κ K P) (P .p4)) (λ e. Ψin K (view K R e) (κ K R) (R .p4)) q e within closed;
           one-length = Ψin-length K (view K P e) (κ K P) (P .p4) ∙ sym (Ψin-length K (view K R e) (κ K R) (R .p4));
           short = omega (arith, Ψin-length K (view K P e) (κ K P) (P .p4), N-most (a .key .N));

@@ -2,28 +2,28 @@
 -- Assumes nothing.
 use Prim.Native.Nat.{ℕ, suc, _+_, _*_, _-_, _≤_, _<_}
 use mathlib.Core.Path.{_≡_, refl, sym, ap, _∙_}
+use mathlib.Core.Logic.{⊎-elim}
 use mathlib.Core.Bool.{Bool, true, false}
-use mathlib.Core.List.{List, [], _++_}
+use mathlib.Core.List.{List, [], _∷_, _++_}
 use native.Mathlib.Omega.{arith}
 use lib.Dec.{ltb}
 use lib.ListN.{length, getD}
 use borrow.Author.Tests.{lt-ltb, le-ltb, le-leb, eq-eqb, ltb-true, leb-true, eqb-true, not-false}
-use Rattle.lists.specs.Index.{pick, cat, every, same}
+use Rattle.lists.specs.Index.{pick, cat, every}
 use Rattle.lists.specs.Bytes.{num}
 use Rattle.lists.specs.Check.{Check, accepted, first}
-use Rattle.lists.specs.TestLaws.{not-of-true, every-all, every-at, each-holds, same-of, clean-append, cat-clean, same-eq, holds-each, Clean, clean, clean-left, clean-right, clean-cat, cleared, first-more, pick-false}
+use Rattle.lists.specs.TestLaws.{decide, not-of-true, every-all, every-at, each-holds, same-of, clean-append, cat-clean, same-eq, holds-each, Clean, clean, clean-left, clean-right, clean-cat, cleared, first-more, pick-false}
 use Rattle.lists.specs.CatLaws.{part-length}
 use Rattle.numbers.specs.Sum.{sum, sum-suc, sum-grows}
 use Rattle.protocol.specs.Key.{Key, entries, keptCount, keyOf, limits, keyChecks}
-use Rattle.protocol.specs.Shares.{H, Ωin}
 use Rattle.protocol.specs.Prover.{opened, goodE, goodHidden}
-use Rattle.protocol.specs.Transcript.{Parts, partAt, partsOf, sizes, goodHeader}
-use Rattle.protocol.specs.Judge.{hidesN, givenCount, given, ΩAt, keptView, goodNumbers, formChecks, executionChecks, hashChecks, partsChecks, runChecks, judge}
+use Rattle.protocol.specs.Transcript.{Parts, partAt, partsOf, sizes, fileEnd, goodHeader}
+use Rattle.protocol.specs.Judge.{hidesN, givenCount, given, goodNumbers, formChecks, executionChecks, hashChecks, partsChecks, runChecks, judge}
 use Rattle.protocol.specs.Accepts.{GoodKey, GoodHeader, GoodParts, GoodValues, Accepts}
 use Rattle.protocol.proofs.KeyFacts.{good}
 
 -- ---- the key
-key-facts : (K : Key) (x : List ℕ) → Clean (keyChecks K x) → (length x ≡ 24 + 4 * entries K) × GoodKey K
+pub key-facts : (K : Key) (x : List ℕ) → Clean (keyChecks K x) → (length x ≡ 24 + 4 * entries K) × GoodKey K
 unfolding keyChecks
 key-facts K x c = (eqb-true _ _ (not-false _ (c .1 .1 .1 .0)), good K x c)
 
@@ -36,7 +36,7 @@ header-facts K x e =
       least = leb-true _ _ (l .0);
       size = λ i h. eqb-true _ _ (every-at _ _ (l .1 .0) i h);
       offset = λ i h. eqb-true _ _ (every-at _ _ (l .1 .1 .0) i h);
-      end = eqb-true _ _ (l .1 .1 .1 .0);
+      end = omega (arith, eqb-true (fileEnd x) (length x) (l .1 .1 .1 .0));
     }
 
 -- A part of the header's offset and length.
@@ -59,11 +59,31 @@ module _ (K : Key) (x : List ℕ) (h : GoodHeader K x) where
       part-long x i (56 + sum i size-of) (size-of i) (h .offset i (omega arith)) (h .size i l)
       (omega (arith, h .end, ends .0, sum-suc i size-of, sum-grows size-of (suc i) (5 - i), ap (λ n. sum n size-of) e))
 
+-- E and the hidden list, entry by entry.
+module _ (K : Key) (E : List ℕ) (good : goodE K E ≡ true) where
+  pub E-rising : (j : ℕ) → j < length E → getD (0 ∷ E) j 0 < getD E j 0
+  unfolding goodE
+  E-rising j h = ltb-true _ _ (every-at _ _ (holds-each _ good .1 .0) j h)
+
+  pub E-within : (j : ℕ) → j < length E → getD E j 0 ≤ K .M
+  unfolding goodE
+  E-within j h = leb-true _ _ (every-at _ _ (holds-each _ good .1 .1 .0) j h)
+
+module _ (K : Key) (list : List ℕ) (good : goodHidden K list ≡ true) where
+  pub hidden-from : (j : ℕ) → j < length list → 1 ≤ getD list j 0
+  unfolding goodHidden
+  hidden-from j h = leb-true _ _ (every-at _ _ (holds-each _ good .1 .0) j h)
+
+  pub hidden-to : (j : ℕ) → j < length list → getD list j 0 ≤ K .N
+  unfolding goodHidden
+  hidden-to j h = leb-true _ _ (every-at _ _ (holds-each _ good .1 .1 .0) j h)
+
 parts-facts : (K : Key) (x : List ℕ) → GoodHeader K x → Clean (formChecks K (partsOf x)) → GoodParts K (partsOf x)
-unfolding partsOf sizes formChecks goodE goodHidden goodNumbers
+unfolding partsOf sizes formChecks goodNumbers
 parts-facts K x h c =
-    let E = holds-each _ (not-false _ (c .0)) in
-    let hid = holds-each _ (not-false _ (c .1 .0)) in
+    let good-E = not-false (goodE K (partsOf x .p2)) (c .0) in
+    let good-hidden = not-false (goodHidden K (partsOf x .p6)) (c .1 .0) in
+    let good-numbers = not-false (goodNumbers K (partsOf x)) (c .1 .1 .1 .0) in
     let long2 : length (partsOf x .p2) ≡ K .τ = part-is K x h 1 (omega arith) in
     let long6 : length (partsOf x .p6) ≡ keptCount K = part-is K x h 5 (omega arith) in
     record {
@@ -74,16 +94,12 @@ parts-facts K x h c =
       long5 = part-is K x h 4 (omega arith);
       long6 = long6;
       long7 = eqb-true _ _ (not-false _ (c .1 .1 .0));
-      E-rises = λ j l. ltb-true _ _ (every-at _ _ (E .1 .0) j (omega (arith, long2)));
-      E-most = λ j l. leb-true _ _ (every-at _ _ (E .1 .1 .0) j (omega (arith, long2)));
-      hidden-least = λ j l. leb-true _ _ (every-at _ _ (hid .1 .0) j (omega (arith, long6)));
-      hidden-most = λ j l. leb-true _ _ (every-at _ _ (hid .1 .1 .0) j (omega (arith, long6)));
-      below = λ e l k j b. ltb-true _ _ (every-at _ _ (kept-test (not-false _ (c .1 .1 .1 .0)) e l k) j b);
+      E-rises = λ j l. E-rising K (partsOf x .p2) good-E j (omega (arith, long2));
+      E-most = λ j l. E-within K (partsOf x .p2) good-E j (omega (arith, long2));
+      hidden-least = λ j l. hidden-from K (partsOf x .p6) good-hidden j (omega (arith, long6));
+      hidden-most = λ j l. hidden-to K (partsOf x .p6) good-hidden j (omega (arith, long6));
+      below = λ e l k j b. ltb-true _ _ (every-at _ _ (rw k at (every-at _ _ good-numbers e l)) j b);
     }
-  where
-    kept-test : goodNumbers K (partsOf x) ≡ true → (e : ℕ) → e < K .M → opened (partsOf x .p2) e ≡ false
-        → every (givenCount K (partsOf x) e) (λ j. ltb (given K (partsOf x) e j) (K .q)) ≡ true
-    kept-test g e l k = sym (pick-false _ _ _ k) ∙ every-at _ _ g e l
 
 -- ---- the values
 abbrev keptChecks : Key → Parts → List Check
@@ -228,16 +244,12 @@ module _ (K : Key) (P : Parts) (g : GoodParts K P) where
   )
 
 module _ (K : Key) (P : Parts) (g : GoodValues K P) where
-  Ω-true : (e : ℕ) → e < K .M → opened (P .p2) e ≡ false → pick (hidesN K P e) true (same (ΩAt K P e) (H (Ωin K (keptView K P e)))) ≡ true
-  Ω-true e h c = go (hidesN K P e) refl
-    where
-      go : (t : Bool) → hidesN K P e ≡ t → pick t true (same (ΩAt K P e) (H (Ωin K (keptView K P e)))) ≡ true
-      go true n = refl
-      go false n = same-of (g .Ω e h c n)
-
   execution-clean : (e : ℕ) → e < K .M → opened (P .p2) e ≡ false → Clean (executionChecks K P e)
   unfolding executionChecks
-  execution-clean e h c = (not-of-true (Ω-true e h c), (not-of-true (eq-eqb _ _ (g .zero-sum e h c)), tt))
+  execution-clean e h c = (
+    ⊎-elim (λ n. rw n) (λ n. rw n (not-of-true (same-of (g .Ω e h c n)))) (decide (hidesN K P e)),
+    (not-of-true (eq-eqb _ _ (g .zero-sum e h c)), tt),
+  )
 
   executions-clean : Clean (keptChecks K P)
   executions-clean = cat-clean (K .M) (λ e. pick (opened (P .p2) e) [] (executionChecks K P e)) (λ e h. go e h (opened (P .p2) e) refl)

@@ -2,18 +2,16 @@
 -- Assumes nothing.
 use Prim.Native.Nat.{ℕ, suc, _+_, _*_, _-_, _<_, _≤_}
 use mathlib.Core.Path.{_≡_, refl, sym, _∙_, ap, ap₂}
-use mathlib.Core.Bool.{true}
 use mathlib.Core.List.{List, [], _++_, append-nil}
 use native.Mathlib.Omega.{arith}
-use borrow.Author.Tests.{eq-eqb, le-leb}
 use lib.ListN.{length, getD, length-append}
 use Rattle.lists.specs.Index.{cat, part}
 use Rattle.lists.specs.Bytes.{le4, rd4, num}
 use Rattle.lists.specs.CatLaws.{cat-length, cat-length-by, cat-part, part-part, part-right, part-first, part-last, le4-length, rd4-le4}
-use Rattle.lists.specs.TestLaws.{every-all, each-holds}
 use Rattle.numbers.specs.Sum.{sum, sum-zero, sum-suc, sum-ext, sum-grows}
 use Rattle.protocol.specs.Key.{Key}
-use Rattle.protocol.specs.Transcript.{Parts, partAt, partsOf, sizes, goodHeader, list, transcript}
+use Rattle.protocol.specs.Transcript.{Parts, partAt, partsOf, sizes, list, transcript}
+use Rattle.protocol.specs.Accepts.{GoodHeader}
 
 module _ (P : Parts) where
   abbrev pub item : ℕ → List ℕ
@@ -95,22 +93,11 @@ module _ (P : Parts) where
         }
 
     -- The header is right where the first six parts have their lengths.
-    pub header-good : (K : Key) → ((i : ℕ) → i < 6 → length (item i) ≡ getD (sizes K) i 0) → goodHeader K (transcript P) ≡ true
-    unfolding goodHeader
+    pub header-good : (K : Key) → ((i : ℕ) → i < 6 → length (item i) ≡ getD (sizes K) i 0) → GoodHeader K (transcript P)
     header-good K long =
-        each-holds _ (
-          le-leb 56 (length (transcript P)) (omega (arith, transcript-length)),
-          (
-            every-all 6 _ (λ i h. eq-eqb _ _ (length-at i (omega arith) ∙ long i h)),
-            (
-              every-all 7 _ (λ i h. eq-eqb _ _ (offset-at i h ∙ ap (λ x. 56 + x) (sum-ext i (λ j y. long j (omega arith))))),
-              (
-                eq-eqb (num (transcript P) 12 + num (transcript P) 13) (length (transcript P)) ends,
-                tt,
-              ),
-            ),
-          ),
-        )
-      where
-        ends : num (transcript P) 12 + num (transcript P) 13 ≡ length (transcript P)
-        ends = omega (arith, offset-at 6 (omega arith), length-at 6 (omega arith), transcript-length, sum-suc 6 (λ j. length (item j)))
+        record {
+          least = omega (arith, transcript-length);
+          size = λ i h. length-at i (omega arith) ∙ long i h;
+          offset = λ i h. offset-at i h ∙ ap (λ x. 56 + x) (sum-ext i (λ j y. long j (omega arith)));
+          end = omega (arith, offset-at 6 (omega arith), length-at 6 (omega arith), transcript-length, sum-suc 6 (λ j. length (item j)));
+        }

@@ -21,9 +21,9 @@ use Rattle.protocol.specs.Prover.{master, proverView, statementChecks, c
 use Rattle.protocol.specs.Transcript.{Parts, transcript}
 use Rattle.protocol.specs.Honest.{honestParts}
 use Rattle.protocol.specs.Judge.{keptView, view}
-use Rattle.protocol.specs.Pair.{Comparison, compare, Reading, secret, firstDifferent, execution, openInBoth, comparisons, source, joined, values, finding, Lengths, enough, pair}
+use Rattle.protocol.specs.Pair.{Comparison, compare, Reading, secret, firstDifferent, execution, openInBoth, comparisons, source, joined, values, finding, Lengths, pair}
 use Rattle.protocol.specs.Accepts.{GoodKey, GoodParts}
-use Rattle.protocol.specs.Demand3.{Equal, Solution, Works}
+use Rattle.protocol.specs.Demand3.{Equal, Solution, Works, LongEnough}
 use Rattle.protocol.proofs.KeyFacts.{good}
 use Rattle.protocol.proofs.Facts.{accepts}
 use Rattle.protocol.proofs.HonestSum.{dealt-s}
@@ -182,7 +182,7 @@ module _ (K : Key) (seeds bits E κ L hid₁ hid₂ : List ℕ) (G : GoodKey K) 
 
 -- The pair reader gives the secret of the prover whose messages the two transcripts are made of.
 pub honest-secret : (key seeds bits E κ L hid₁ hid₂ : List ℕ) (l : Lengths)
-    → enough (keyOf key) l ≡ true
+    → LongEnough key l
     → first (keyChecks (keyOf key) key ++ checks7 (keyOf key) seeds bits E κ L hid₁) ≡ accepted
     → first (keyChecks (keyOf key) key ++ checks7 (keyOf key) seeds bits E κ L hid₂) ≡ accepted
     → (hid₁ ≡ hid₂ → ⊥)

@@ -1,8 +1,10 @@
 pub mod Acceptance
 pub mod Demand3
+pub mod Demand3Bytes
 pub mod Demand3Lengths
 pub mod Demand3Links
 pub mod Facts
+pub mod Fits
 pub mod Header
 pub mod HonestPair
 pub mod HonestParts

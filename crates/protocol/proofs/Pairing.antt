@@ -1,16 +1,16 @@
--- Two views of one execution that hide different parties and have equal inputs of Π and of Ψ: each party's values from the first view in
--- which it is open make one run, whose α(k) and o(i) are those of the views. So the sum of its outputs is 0.
+-- Two views of one execution that have equal inputs of Π and of Ψ: each party's values from a view in which it is open make one run, whose
+-- α(k) and o(i) are those of the views. So the sum of its outputs is 0.
 -- Assumes nothing.
 use Prim.Native.Nat.{ℕ, _+_, _*_, _%_, _<_}
 use mathlib.Core.Path.{_≡_, refl, sym, ap, ap₂, _∙_}
-use mathlib.Core.Bool.{Bool, true, false}
+use mathlib.Core.Logic.{_⊎_, ⊎-elim}
+use mathlib.Core.Bool.{false}
 use mathlib.Core.List.{List}
 use native.Mathlib.Omega.{arith}
 use lib.ListN.{length}
-use borrow.Author.Tests.{eqb-true, ne-eqb}
-use Rattle.lists.specs.Index.{pick, cat}
+use Rattle.lists.specs.Index.{cat}
 use Rattle.lists.specs.Bytes.{nums}
-use Rattle.lists.specs.TestLaws.{pick-true, pick-false}
+use Rattle.lists.specs.TestLaws.{pick-false}
 use Rattle.lists.specs.CatLaws.{cat-lengths, nums-length}
 use Rattle.lists.specs.Inj.{append-left, cat-inj, nums-inj}
 use Rattle.numbers.specs.Mod.{Cong, cong-sym, cong-trans, cong-eq, cong-mod, cong-mul, sub}
@@ -26,7 +26,6 @@ use Rattle.protocol.proofs.Demand3Lengths.{Sized, α-lt, o-lt}
 -- What is known of the two views.
 pub record Forks (K : Key) (L : List ℕ) (v w : View) : Type 0 where
   pub execution : v .ex ≡ w .ex
-  pub differ : v .hid ≡ w .hid → ⊥
   pub v-sized : Sized K v
   pub w-sized : Sized K w
   pub zero-sum : sum (K .N) (o K v L) % K .q ≡ 0
@@ -35,7 +34,12 @@ pub record Forks (K : Key) (L : List ℕ) (v w : View) : Type 0 where
   pub same-Π : Πin K v κ₁ ≡ Πin K w κ₂
   pub same-Ψ : Ψin K v κ₁ L ≡ Ψin K w κ₂ L
 
-module _ (K : Key) (key : GoodKey K) (L : List ℕ) (v w : View) (f : Forks K L v w) where
+-- u is one of the two views, and party i is open in it.
+pub record Source (K : Key) (v w : View) (i : ℕ) (u : View) : Type 0 where
+  pub one : ((u ≡ v) × (isHidden K v i ≡ false)) ⊎ ((u ≡ w) × (isHidden K w i ≡ false))
+
+module _ (K : Key) (key : GoodKey K) (L : List ℕ) (v w : View) (f : Forks K L v w) (from : ℕ → View)
+    (shows : (i : ℕ) → i < K .N → Source K v w i (from i)) where
   positive : 0 < K .q
   positive = q-positive (key .q)
 
@@ -65,14 +69,6 @@ module _ (K : Key) (key : GoodKey K) (L : List ℕ) (v w : View) (f : Forks K L 
       (nums-length (K .N) (o K v L) ∙ sym (nums-length (K .N) (o K w L))) (f .same-Ψ))
       i l
 
-  -- the view that party i's values are taken from
-  abbrev pub from : ℕ → View
-  from i = pick (isHidden K v i) w v
-
-  -- hidden in v: open in w
-  open-w : (i : ℕ) → isHidden K v i ≡ true → isHidden K w i ≡ false
-  open-w i h = ne-eqb i (w .hid) (λ e. f .differ (sym (eqb-true i (v .hid) h) ∙ e))
-
   abbrev pub joinedRun : Run
   joinedRun =
       record {
@@ -94,11 +90,11 @@ module _ (K : Key) (key : GoodKey K) (L : List ℕ) (v w : View) (f : Forks K L 
   α-open u k i h = sym (pick-false (isHidden K u i) (u .αh k) (sub (K .q) (s K u k i) (b K u k i)) h)
 
   α-joined : (k : ℕ) → k < K .m → (i : ℕ) → i < K .N → sub (K .q) (s K (from i) k i) (b K (from i) k i) ≡ α K v k i
-  α-joined k h i l = go (isHidden K v i) refl
-    where
-      go : (t : Bool) → isHidden K v i ≡ t → sub (K .q) (s K (pick t w v) k i) (b K (pick t w v) k i) ≡ α K v k i
-      go true e = α-open w k i (open-w i e) ∙ sym (α-same k h i l)
-      go false e = α-open v k i e
+  α-joined k h i l =
+      ⊎-elim
+      (λ z. ap (λ (u : View). sub (K .q) (s K u k i) (b K u k i)) (z .0) ∙ α-open v k i (z .1))
+      (λ z. ap (λ (u : View). sub (K .q) (s K u k i) (b K u k i)) (z .0) ∙ α-open w k i (z .1) ∙ sym (α-same k h i l))
+      (shows i l .one)
 
   αsum-joined : (k : ℕ) → k < K .m → alphaOf (K .q) joinedRun k ≡ αsum K v k
   unfolding alphaOf αsum
@@ -129,11 +125,11 @@ module _ (K : Key) (key : GoodKey K) (L : List ℕ) (v w : View) (f : Forks K L 
       ∙ sym (pick-false (isHidden K u i) (u .oh) (out (K .q) (run K u L) (αsum K u) i) h)
 
   out-joined : (i : ℕ) → i < K .N → out (K .q) joinedRun (αsum K v) i ≡ o K v L i
-  out-joined i l = go (isHidden K v i) refl
-    where
-      go : (t : Bool) → isHidden K v i ≡ t → out (K .q) joinedRun (αsum K v) i ≡ o K v L i
-      go true e = out-open w i (pick-true (isHidden K v i) w v e) (f .execution) (open-w i e) αsum-same ∙ sym (o-same i l)
-      go false e = out-open v i (pick-false (isHidden K v i) w v e) refl e (λ k h. refl)
+  out-joined i l =
+      ⊎-elim
+      (λ z. out-open v i (z .0) refl (z .1) (λ k h. refl))
+      (λ z. out-open w i (z .0) (f .execution) (z .1) αsum-same ∙ sym (o-same i l))
+      (shows i l .one)
 
   zero-joined : sum (K .N) (out (K .q) joinedRun (αsum K v)) % K .q ≡ 0
   zero-joined = ap (λ (x : ℕ). x % K .q) (sum-ext (K .N) (λ i l. out-joined i l)) ∙ f .zero-sum

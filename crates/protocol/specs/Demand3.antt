@@ -4,18 +4,19 @@
 use Prim.Native.Nat.{ℕ, zero, suc, _+_, _*_, _%_, _≤_, _<_}
 use mathlib.Core.Path.{_≡_}
 use mathlib.Core.Logic.{_⊎_}
-use mathlib.Core.Bool.{false}
+use mathlib.Core.Bool.{true, false}
 use mathlib.Core.List.{List, [], _∷_}
 use lib.ListN.{length, getD}
-use Rattle.lists.specs.Check.{accepted}
+use Rattle.lists.specs.Check.{accepted, first}
+use Rattle.lists.specs.ByteList.{Bytes}
 use Rattle.numbers.specs.Mod.{Cong, sub}
 use Rattle.numbers.specs.Sum.{sum}
-use Rattle.protocol.specs.Key.{Key, A, t, keyOf}
+use Rattle.protocol.specs.Key.{Key, A, t, keyOf, keyChecks}
 use Rattle.protocol.specs.Shares.{H, coefficient, s, b, d}
 use Rattle.protocol.specs.Prover.{opened}
 use Rattle.protocol.specs.Transcript.{Parts, partsOf}
 use Rattle.protocol.specs.Judge.{hidden, judge}
-use Rattle.protocol.specs.Pair.{Comparison, compare, Reading, refusal, collision, secret, square, errors, execution, comparisons, joined, Lengths, pair}
+use Rattle.protocol.specs.Pair.{Comparison, compare, Reading, refusal, collision, secret, square, errors, execution, comparisons, joined, Lengths, enough, pair}
 
 -- The judge accepts both transcripts for the key, their parts 1 to 5 are equal, and their hidden lists differ.
 pub record Forked (key x y : List ℕ) : Type 0 where
@@ -55,6 +56,8 @@ module _ (K : Key) (P R : Parts) where
   pub record Collision (kind e party : ℕ) (one two : List ℕ) : Type 0 where
     pub works : Works e
     pub first : First (compare kind party one two) (comparisons K P R e)
+    pub bytes-one : Bytes one
+    pub bytes-two : Bytes two
     pub differ : one ≡ two → ⊥
     pub one-hash : H one ≡ H two
     pub one-length : length one ≡ length two
@@ -76,6 +79,8 @@ module _ (K : Key) (P R : Parts) where
     pub column : k < K .m
     pub b-read : bk ≡ joined K P R e b k
     pub d-read : dk ≡ joined K P R e d k
+    pub b-fits : bk < K .q
+    pub d-fits : dk < K .q
     pub wrong : Cong (K .q) dk (bk * bk) → ⊥
     pub smallest : (j : ℕ) → j < k → Cong (K .q) (joined K P R e d j) (joined K P R e b j * joined K P R e b j)
 
@@ -87,6 +92,7 @@ module _ (K : Key) (P R : Parts) where
     pub no-secret : Solution K (joined K P R e s) → ⊥
     pub squares : (k : ℕ) → k < K .m → Cong (K .q) (joined K P R e d k) (joined K P R e b k * joined K P R e b k)
     pub long : length list ≡ K .n + K .m
+    pub fits : (j : ℕ) → j < K .n + K .m → getD list j 0 < K .q
     pub u-read : (l : ℕ) → l < K .n → getD list l 0 ≡ sub (K .q) (t K l) (sum (K .m) (λ k. A K l k * joined K P R e s k))
     pub v-read : (k : ℕ) → k < K .m → getD list (K .n + k) 0 ≡ sub (K .q) (joined K P R e s k * joined K P R e s k) (joined K P R e s k)
     pub not-zero : (j : ℕ) × (j < K .n + K .m) × (getD list j 0 ≡ 0 → ⊥)
@@ -115,8 +121,13 @@ Finding (secret bits) = Unit {0}
 Finding (square e k bk dk) = Unit {0}
 Finding (errors e list) = Unit {0}
 
--- Demand 3, for lent lists of the lengths l: a finding exactly where the transcripts fork, and true.
+-- The lent lists are as long as document 01 asks for the key's numbers, if the key is read; one that gets 1 to 5 asks for no length.
+abbrev pub LongEnough : List ℕ → Lengths → Type 0
+LongEnough key l = first (keyChecks (keyOf key) key) ≡ accepted → enough (keyOf key) l ≡ true
+
+-- Demand 3, for lent lists of the lengths l: a finding only where the transcripts fork, always there if the lists are long enough, and
+-- true of transcripts that are bytes.
 pub record Demand3 (key : List ℕ) (l : Lengths) (x y : List ℕ) : Type 0 where
   pub only : Finding (pair key l x y) → Forked key x y
-  pub always : Forked key x y → Finding (pair key l x y)
-  pub true : Finding (pair key l x y) → Truth (keyOf key) (partsOf x) (partsOf y) (pair key l x y)
+  pub always : LongEnough key l → Forked key x y → Finding (pair key l x y)
+  pub true : Bytes x → Bytes y → Finding (pair key l x y) → Truth (keyOf key) (partsOf x) (partsOf y) (pair key l x y)

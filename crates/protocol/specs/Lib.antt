@@ -1,5 +1,6 @@
 pub mod Accepts
 pub mod Demand3
+pub mod Fits
 pub mod Honest
 pub mod Judge
 pub mod Key

@@ -1,9 +1,10 @@
--- Document 01, Pair reader, level 3: the comparisons, the joined values, the four findings and 20 to 23.
+-- Document 01, Pair reader, level 3: the comparisons, the joined values, the four findings with their numbers and values, 11 and 20 to 23.
 -- Assumes nothing.
 use Prim.Native.Nat.{ℕ, suc, _+_, _*_, _-_, _%_}
 use mathlib.Core.Bool.{Bool, true, false, not}
 use mathlib.Core.List.{List, [], _∷_, _++_}
 use lib.Dec.{ltb, leb, eqb}
+use lib.ListN.{length}
 use Rattle.lists.specs.Tab.{tab}
 use Rattle.lists.specs.Index.{pick, cat, least, same, holds}
 use Rattle.lists.specs.Check.{Check, _⇒_, Verdict, accepted, refused, first}
@@ -75,6 +76,10 @@ module _ (K : Key) (P R : Parts) where
     unfoldable pub joined : (Key → View → ℕ → ℕ → ℕ) → ℕ → ℕ
     joined f k = sum (K .N) (λ i. f K (source i) k i) % K .q
 
+    -- the joined s(1) .. s(m)
+    abbrev pub joinedBits : List ℕ
+    joinedBits = tab (K .m) (joined s)
+
     -- u = t - A·s and v(k) = s(k)² - s(k)
     unfoldable pub uv : List ℕ
     uv =
@@ -87,7 +92,7 @@ module _ (K : Key) (P R : Parts) where
     unfoldable pub values : Reading
     values =
         pick (holds (solves K (joined s) ∷ binary K (joined s) ∷ []))
-        (secret (tab (K .m) (joined s)))
+        (secret joinedBits)
         (pick (ltb wrongSquare (K .m))
         (square (suc e) (suc wrongSquare) (joined b wrongSquare) (joined d wrongSquare))
         (errors (suc e) uv))
@@ -138,3 +143,20 @@ readOf (refused n) r = refusal n
 
 unfoldable pub pair : List ℕ → Lengths → List ℕ → List ℕ → Reading
 pair key l x y = readOf (first (pairChecks key l x y)) (finding (keyOf key) (partsOf x) (partsOf y))
+
+-- An answer in numbers: a refusal's number alone, or a finding's number and its values.
+pub data Said : Type 0 where
+  refusedAs : ℕ → Said
+  foundAs : ℕ → List ℕ → Said
+
+-- The values of a finding in one order, with 0 where it has none.
+abbrev pub valueList : (kind e i size k b d : ℕ) → List ℕ
+valueList kind e i size k b d = kind ∷ e ∷ i ∷ size ∷ k ∷ b ∷ d ∷ []
+
+-- Finding 1 with kind, e, i and the length; finding 2; finding 3 with e, k, b(k) and d(k); finding 4 with e.
+abbrev pub says : Reading → Said
+says (refusal n) = refusedAs n
+says (collision kind e party one two) = foundAs 1 (valueList kind e party (length one) 0 0 0)
+says (secret bits) = foundAs 2 (valueList 0 0 0 0 0 0 0)
+says (square e k bk dk) = foundAs 3 (valueList 0 e 0 0 k bk dk)
+says (errors e list) = foundAs 4 (valueList 0 e 0 0 0 0 0)

@@ -40,14 +40,18 @@ partsOf x =
 unfoldable pub sizes : Key → List ℕ
 sizes K = 32 ∷ K .τ ∷ (16 * K .τ + 32 * keptCount K + 32) ∷ 16 ∷ 32 ∷ keptCount K ∷ []
 
--- The first six pairs, each offset, and the file's end are right. Sums are exact.
+-- where part 7 ends by its pair; the sum is exact
+abbrev pub fileEnd : List ℕ → ℕ
+fileEnd x = num x 12 + num x 13
+
+-- The first six pairs, each offset, and the file's end are right.
 unfoldable pub goodHeader : Key → List ℕ → Bool
 goodHeader K x =
     holds
     (leb 56 (length x)
     ∷ every 6 (λ i. eqb (num x (2 * i + 1)) (getD (sizes K) i 0))
     ∷ every 7 (λ i. eqb (num x (2 * i)) (56 + sum i (λ j. getD (sizes K) j 0)))
-    ∷ eqb (num x 12 + num x 13) (length x)
+    ∷ eqb (fileEnd x) (length x)
     ∷ [])
 
 -- the list of the parts, and the file that they make

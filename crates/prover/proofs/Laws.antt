@@ -3,23 +3,23 @@
 use Prim.Native.Nat.{ℕ, _+_, _*_, _-_, _<_, _≤_}
 use mathlib.Core.Path.{_≡_, refl, sym, _∙_, ap, ap₂}
 use mathlib.Core.Bool.{Bool, true, false, not}
-use mathlib.Core.List.{List, [], _∷_, _++_, append-assoc}
+use mathlib.Core.List.{List, [], _∷_, _++_}
 use native.Mathlib.Numerals.{add-one}
 use native.Mathlib.Omega.{arith}
 use lib.ListN.{length, getD, take, drop}
-use lib.Seq.{drop-drop}
+use lib.Seq.{take-all, length-take-le}
 use borrow.Author.Tests.{eq-eqb, ne-eqb, le-leb, lt-leb, leb-true, eqb-true, not-false}
-use Rattle.lists.specs.Written.{Puts, puts-none, puts-some}
+use Rattle.lists.specs.Written.{Puts, puts-none, puts-some, tail-written}
 use Rattle.lists.specs.Index.{holds, pick, count}
+use Rattle.lists.specs.CatLaws.{part-length}
 use Rattle.lists.specs.Check.{Check, _⇒_, Verdict, accepted, refused, first}
 use Rattle.lists.specs.TestLaws.{first-stops, first-more, Clean, clean, cleared, clean-left, clean-right, holds-each, count-suc, count-below, count-mono}
 use Rattle.numbers.specs.Sum.{sum}
 use Rattle.refusals.specs.Number.{numberOf, refused-is, none-applies, Numbered, numbered-append}
 use Rattle.protocol.specs.Key.{Key, entries, keyOf, keyChecks}
-use Rattle.protocol.specs.Shares.{b, s}
 use Rattle.protocol.specs.Prover.{message1, message3, message5, message7, checks1, checks3, checks5, checks7, statementChecks, goodE, goodHidden, binary, solves, sized, opened, lentChecks, verdict1, verdict3, verdict5, verdict7, output}
 use Rattle.protocol.specs.Judge.{hidden, givenCount, replySize}
-use Rattle.protocol.proofs.Sizes.{message3-length, message5-length, message7-length, replyBytes, repliesBytes}
+use Rattle.protocol.proofs.Sizes.{message1-length, message3-length, message5-length, message7-length, replyBytes, repliesBytes}
 use Rattle.protocol.proofs.Opened.{opened-count, kept-count}
 use Rattle.execution.specs.Shown.{Limits, Sized}
 use Rattle.key.specs.Numbers.{Of, keyWith, Limits as KeyLimits}
@@ -135,13 +135,12 @@ pub accepted-all : (K : Key) (key : List ℕ) (b : List Check) (message : List �
 accepted-all K key b message size from work entry h e =
     none-applies _ (numbered-append (keyChecks K key ++ b) _ (numbered-append (keyChecks K key) b (numbered-key K key) h) (numbered-lent K message size from work entry)) e
 
--- what stands in the output
-pub written : (v : Verdict) (message ys out : List ℕ) (from n : ℕ) → v ≡ accepted → ys ≡ message → length message ≡ n
-    → take from out ++ (ys ++ drop (from + n - from) (drop from out)) ≡ output v message from out
+-- What stands in an output that was lent from a place on to a writer, who put the message to the front of what was lent and left the rest:
+-- the bytes before the place and after the message are as they were.
+pub written : (v : Verdict) (message ys out : List ℕ) (from n : ℕ) → v ≡ accepted → length message ≡ n
+    → ys ≡ message ++ drop n (take (length out - from) (drop from out)) → take from out ++ (ys ++ drop (length out - from) (drop from out)) ≡ output v message from out
 unfolding output
-written v message ys out from n e y long =
-    let z : from + n - from ≡ n = omega arith in
-    rw (e, y, z, drop-drop n from out, ← long) (sym (append-assoc (take from out) message (drop (from + length message) out)))
+written v message ys out from n e long y = rw (e, long) (tail-written message ys out from n y)
 
 pub untouched : (v : Verdict) (message out : List ℕ) (from n : ℕ) → v ≡ refused n → out ≡ output v message from out
 unfolding output
@@ -156,12 +155,27 @@ answer-refused v message n e = rw e
 pub refuses : (v : Verdict) (message out : List ℕ) (from : ℕ) {n : ℕ} → n ≡ numberOf v → (n ≡ 0 → ⊥) → (Refused n ≡ answerOf v message) × (out ≡ output v message from out)
 refuses v message out from {n} e h = (answer-refused v message n (refused-is v e h), untouched v message out from n (refused-is v e h))
 
-pub writes : (v : Verdict) (message ys out : List ℕ) (from n : ℕ) → v ≡ accepted → ys ≡ message → length message ≡ n
-    → (Length n ≡ answerOf v message) × (take from out ++ (ys ++ drop (from + n - from) (drop from out)) ≡ output v message from out)
-writes v message ys out from n e y long = (answer-length v message n e long, written v message ys out from n e y long)
+pub writes : (v : Verdict) (message ys out : List ℕ) (from n : ℕ) → v ≡ accepted → length message ≡ n → ys ≡ message ++ drop n (take (length out - from) (drop from out))
+    → (Length n ≡ answerOf v message) × (take from out ++ (ys ++ drop (length out - from) (drop from out)) ≡ output v message from out)
+writes v message ys out from n e long y = (answer-length v message n e long, written v message ys out from n e long y)
 
-pub end-within : {K : Key} {message : List ℕ} {size from work entry n : ℕ} → Room K message size from work entry → length message ≡ n → from + n ≤ size
-end-within r long = omega (arith, r .long)
+-- the tail has room for the message
+pub tail-room : {K : Key} {message : List ℕ} {from work entry : ℕ} (out : List ℕ) → Room K message (length out) from work entry
+    → length message ≤ length (take (length out - from) (drop from out))
+tail-room {from = from} out r =
+    let place : from ≤ length out = r .place in
+    omega (arith, r .long, part-length out from (length out - from) (omega arith))
+
+-- the first n bytes of a list are put to the front of another
+pub put-front : (n : ℕ) (src out ys : List ℕ) → n ≤ length src → ys ≡ take (length (take n src)) (take n src) ++ drop (length (take n src)) out
+    → ys ≡ take n src ++ drop n out
+put-front n src out ys h y =
+    let z : length (take n src) ≡ n = length-take-le n src h in
+    y ∙ rw (z, take-all n (take n src) (omega (arith, z))) refl
+
+-- where they are the message, it is
+pub put-whole : (message src rest ys : List ℕ) (n : ℕ) → length message ≡ n → src ≡ message → ys ≡ take n src ++ rest → ys ≡ message ++ rest
+put-whole message src rest ys n long e y = y ∙ rw (e, take-all n message (omega (arith, long))) refl
 
 -- the numbers of a key that was read
 pub limits-of : {k : Numbers} → KeyLimits k → Limits (k .q) (k .m) (k .parties)
@@ -200,6 +214,30 @@ module _ (key seeds : List ℕ) (size from work entry : ℕ) where
 pub seeds-long : (K : Key) (seeds : List ℕ) → Clean (checks1 K seeds) → length seeds ≡ 16 * K .M
 unfolding checks1
 seeds-long K seeds c = eqb-true (length seeds) (16 * K .M) (not-false _ (c .0))
+
+-- what the writer of message 1 is told
+pub record Ready1 (key seeds out : List ℕ) (from work entry : ℕ) : Type 0 where
+  pub passes : verdict1 key seeds (length out) from work entry ≡ accepted
+  pub of-key : first (keyChecks (keyOf key) key) ≡ accepted
+  pub seeds-long : length seeds ≡ 16 * keyOf key .M
+  pub shares : 4 * keyOf key .m * keyOf key .N ≤ work
+  pub long : length (message1 (keyOf key) seeds) ≡ 32
+  pub ends : from + 32 ≤ length out
+
+pub ready1 : (key seeds out : List ℕ) (from work entry : ℕ) {n : ℕ} → n ≡ numberOf (verdict1 key seeds (length out) from work entry) → n ≡ 0
+    → Ready1 key seeds out from work entry
+ready1 key seeds out from work entry e z =
+    let a = accepted1 key seeds (length out) from work entry e z in
+    let p = passed1 key seeds (length out) from work entry a in
+    let l = message1-length (keyOf key) seeds in
+    record {
+      passes = a;
+      of-key = p .of-key;
+      seeds-long = seeds-long (keyOf key) seeds (p .inputs);
+      shares = p .room .shares;
+      long = l;
+      ends = omega (arith, p .room .long, l);
+    }
 
 -- ---- messages 3 and 5: the inputs
 module _ {m M : ℕ} {seeds secret κ : List ℕ} where
@@ -370,24 +408,27 @@ pub kept-room : (K : Key) (E : List ℕ) (M w : ℕ) → goodE K E ≡ true → 
 kept-room K E M w g eM h = h ∙ ap (λ x. 32 * x + 32) (sym (kept-count K E g) ∙ ap (λ n. count n (λ j. not (opened E j))) (sym eM))
 
 -- what the writer of message 3 is told
-pub record Ready3 (key seeds secret E κ : List ℕ) (size from work entry count : ℕ) : Type 0 where
-  pub passes : verdict3 key seeds secret E κ size from work entry ≡ accepted
+pub record Ready3 (key seeds secret E κ out : List ℕ) (from work entry : ℕ) : Type 0 where
+  pub passes : verdict3 key seeds secret E κ (length out) from work entry ≡ accepted
   pub of-key : first (keyChecks (keyOf key) key) ≡ accepted
   pub inputs : Inputs (keyOf key) seeds secret E κ
   pub shares : 4 * keyOf key .m * keyOf key .N ≤ work
-  pub is : count ≡ 16 * keyOf key .τ + 32 * (keyOf key .M - keyOf key .τ) + 32
-  pub long : length (message3 (keyOf key) seeds secret E κ) ≡ count
-  pub ends : from + count ≤ size
+  pub place : from ≤ length out
+  pub room : length (message3 (keyOf key) seeds secret E κ) ≤ length (take (length out - from) (drop from out))
 
-pub ready3 : (key seeds secret E κ : List ℕ) (size from work entry : ℕ) {n τ M count : ℕ} → n ≡ numberOf (verdict3 key seeds secret E κ size from work entry) → n ≡ 0
-    → τ ≡ keyOf key .τ → M ≡ keyOf key .M → count ≡ 16 * τ + 32 * (M - τ) + 32 → Ready3 key seeds secret E κ size from work entry count
-ready3 key seeds secret E κ size from work entry {n} {τ} {M} {count} e z eτ eM ec =
-    let a = accepted3 key seeds secret E κ size from work entry e z in
-    let p = passed3 key seeds secret E κ size from work entry a in
-    let i = inputs-of3 (keyOf key) seeds secret E κ (p .inputs) in
-    let s : count ≡ 16 * keyOf key .τ + 32 * (keyOf key .M - keyOf key .τ) + 32 = ec ∙ ap₂ (λ (x y : ℕ). 16 * x + 32 * (y - x) + 32) eτ eM in
-    let l : length (message3 (keyOf key) seeds secret E κ) ≡ count = message3-length (keyOf key) seeds secret E κ (i .seeds-long) (i .good) ∙ sym s in
-    record { passes = a; of-key = p .of-key; inputs = i; shares = p .room .shares; is = s; long = l; ends = end-within (p .room) l }
+pub ready3 : (key seeds secret E κ out : List ℕ) (from work entry : ℕ) {n : ℕ} → n ≡ numberOf (verdict3 key seeds secret E κ (length out) from work entry) → n ≡ 0
+    → Ready3 key seeds secret E κ out from work entry
+ready3 key seeds secret E κ out from work entry e z =
+    let a = accepted3 key seeds secret E κ (length out) from work entry e z in
+    let p = passed3 key seeds secret E κ (length out) from work entry a in
+    record {
+      passes = a;
+      of-key = p .of-key;
+      inputs = inputs-of3 (keyOf key) seeds secret E κ (p .inputs);
+      shares = p .room .shares;
+      place = p .room .place;
+      room = tail-room out (p .room);
+    }
 
 -- ---- message 5: the verdict
 pub numbered5 : (K : Key) (seeds secret E κ L : List ℕ) → Numbered (checks5 K seeds secret E κ L)
@@ -441,24 +482,33 @@ module _ (key seeds secret E κ L : List ℕ) (size from work entry : ℕ) where
   passed5 = passed (keyOf key) key (checks5 (keyOf key) seeds secret E κ L) (message5 (keyOf key) seeds secret E κ L) size from work entry
 
 -- what the writer of message 5 is told
-pub record Ready5 (key seeds secret E κ L : List ℕ) (size from work entry : ℕ) : Type 0 where
-  pub passes : verdict5 key seeds secret E κ L size from work entry ≡ accepted
+pub record Ready5 (key seeds secret E κ L out : List ℕ) (from work entry : ℕ) : Type 0 where
+  pub passes : verdict5 key seeds secret E κ L (length out) from work entry ≡ accepted
   pub of-key : first (keyChecks (keyOf key) key) ≡ accepted
   pub inputs : Inputs (keyOf key) seeds secret E κ
   pub seed-long : length L ≡ 16
   pub shares : 4 * keyOf key .m * keyOf key .N ≤ work
   pub rows : entries (keyOf key) ≤ entry
   pub long : length (message5 (keyOf key) seeds secret E κ L) ≡ 32
-  pub ends : from + 32 ≤ size
+  pub ends : from + 32 ≤ length out
 
-pub ready5 : (key seeds secret E κ L : List ℕ) (size from work entry : ℕ) {n : ℕ} → n ≡ numberOf (verdict5 key seeds secret E κ L size from work entry) → n ≡ 0
-    → Ready5 key seeds secret E κ L size from work entry
-ready5 key seeds secret E κ L size from work entry e z =
-    let a = accepted5 key seeds secret E κ L size from work entry e z in
-    let p = passed5 key seeds secret E κ L size from work entry a in
+pub ready5 : (key seeds secret E κ L out : List ℕ) (from work entry : ℕ) {n : ℕ} → n ≡ numberOf (verdict5 key seeds secret E κ L (length out) from work entry) → n ≡ 0
+    → Ready5 key seeds secret E κ L out from work entry
+ready5 key seeds secret E κ L out from work entry e z =
+    let a = accepted5 key seeds secret E κ L (length out) from work entry e z in
+    let p = passed5 key seeds secret E κ L (length out) from work entry a in
     let i = inputs-of5 (keyOf key) seeds secret E κ L (p .inputs) in
     let l = message5-length (keyOf key) seeds secret E κ L in
-    record { passes = a; of-key = p .of-key; inputs = i .0; seed-long = i .1; shares = p .room .shares; rows = p .room .rows; long = l; ends = end-within (p .room) l }
+    record {
+      passes = a;
+      of-key = p .of-key;
+      inputs = i .0;
+      seed-long = i .1;
+      shares = p .room .shares;
+      rows = p .room .rows;
+      long = l;
+      ends = omega (arith, p .room .long, l);
+    }
 
 -- ---- message 7: the verdict
 module _ (K : Key) (seeds secret E κ L hidden : List ℕ) where
@@ -537,25 +587,23 @@ module _ (key seeds secret E κ L hidden : List ℕ) (size from work entry : ℕ
   passed7 = passed (keyOf key) key (checks7 (keyOf key) seeds secret E κ L hidden) (message7 (keyOf key) seeds secret E κ L hidden) size from work entry
 
 -- what the writer of message 7 is told
-pub record Ready7 (key seeds secret E κ L hidden : List ℕ) (size from work entry count : ℕ) : Type 0 where
-  pub passes : verdict7 key seeds secret E κ L hidden size from work entry ≡ accepted
+pub record Ready7 (key seeds secret E κ L hidden out : List ℕ) (from work entry : ℕ) : Type 0 where
+  pub passes : verdict7 key seeds secret E κ L hidden (length out) from work entry ≡ accepted
   pub of-key : first (keyChecks (keyOf key) key) ≡ accepted
   pub inputs : Inputs (keyOf key) seeds secret E κ
   pub seed-long : length L ≡ 16
   pub hides : goodHidden (keyOf key) hidden ≡ true
   pub shares : 4 * keyOf key .m * keyOf key .N ≤ work
   pub rows : entries (keyOf key) ≤ entry
-  pub long : length (message7 (keyOf key) seeds secret E κ L hidden) ≡ count
-  pub ends : from + count ≤ size
+  pub place : from ≤ length out
+  pub room : length (message7 (keyOf key) seeds secret E κ L hidden) ≤ length (take (length out - from) (drop from out))
 
-pub ready7 : (key seeds secret E κ L hidden : List ℕ) (size from work entry : ℕ) {n count : ℕ} {k : Numbers}
-    → n ≡ numberOf (verdict7 key seeds secret E κ L hidden size from work entry) → n ≡ 0 → Of k (keyOf key)
-    → count ≡ 16 + sum (k .executions) (replySize (keyWith k []) (partsWith E hidden [])) → Ready7 key seeds secret E κ L hidden size from work entry count
-ready7 key seeds secret E κ L hidden size from work entry {n} {count} {k} e z of ec =
-    let a = accepted7 key seeds secret E κ L hidden size from work entry e z in
-    let p = passed7 key seeds secret E κ L hidden size from work entry a in
+pub ready7 : (key seeds secret E κ L hidden out : List ℕ) (from work entry : ℕ) {n : ℕ}
+    → n ≡ numberOf (verdict7 key seeds secret E κ L hidden (length out) from work entry) → n ≡ 0 → Ready7 key seeds secret E κ L hidden out from work entry
+ready7 key seeds secret E κ L hidden out from work entry e z =
+    let a = accepted7 key seeds secret E κ L hidden (length out) from work entry e z in
+    let p = passed7 key seeds secret E κ L hidden (length out) from work entry a in
     let i = inputs-of7 (keyOf key) seeds secret E κ L hidden (p .inputs) in
-    let l : length (message7 (keyOf key) seeds secret E κ L hidden) ≡ count = count-7 k (keyOf key) seeds secret E κ L hidden of (i .0 .good) (i .2) (i .0 .κ-long) ∙ sym ec in
     record {
       passes = a;
       of-key = p .of-key;
@@ -564,6 +612,6 @@ ready7 key seeds secret E κ L hidden size from work entry {n} {count} {k} e z o
       hides = i .2;
       shares = p .room .shares;
       rows = p .room .rows;
-      long = l;
-      ends = end-within (p .room) l;
+      place = p .room .place;
+      room = tail-room out (p .room);
     }

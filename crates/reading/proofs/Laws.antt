@@ -22,13 +22,13 @@ use Rattle.numbers.specs.Residue.{Residue}
 use Rattle.protocol.specs.Key.{Key, A, t}
 use Rattle.protocol.specs.Prover.{solves, binary}
 use Rattle.protocol.specs.Transcript.{Parts}
-use Rattle.protocol.specs.Pair.{Reading, secret, square, errors, values}
+use Rattle.protocol.specs.Pair.{Reading, secret, square, errors, values, says}
 use Rattle.key.specs.declared.Numbers.{Numbers}
 use Rattle.key.specs.Numbers.{keyWith}
 use Rattle.joined.specs.Joined.{Joined}
 use Rattle.reading.specs.declared.Reading as coded
 use Rattle.reading.specs.declared.Reading.the-variants.{Secret, Square, Errors}
-use Rattle.reading.specs.Answers.{answerOf, bitsOf, errorsOf}
+use Rattle.reading.specs.Answers.{means, bitsOf, errorsOf}
 use Rattle.reading.specs.Found.{sAt, uAt, isWrong, wrongAt, isSecret, uvAt, found, values-found}
 
 -- ---- squares
@@ -168,13 +168,13 @@ module _ (K : Key) (P R : Parts) (e : ℕ) (x : List ℕ) (J : Joined K P R e x)
   -- what is answered, what stands in the list of the secret and what in that of u and v
   abbrev pub answers : coded.Reading → List ℕ → List ℕ → List ℕ → List ℕ → Type 0
   answers r bits₀ bits errs₀ errs =
-      (r ≡ answerOf (values K P R e)) × (bits ≡ bitsOf (values K P R e) bits₀) × (errs ≡ errorsOf (values K P R e) errs₀)
+      (means r ≡ says (values K P R e)) × (bits ≡ bitsOf (values K P R e) bits₀) × (errs ≡ errorsOf (values K P R e) errs₀)
 
   pub answers-secret : (bits bits₀ errs : List ℕ) → isSecret K x ≡ true → bits ≡ tab (K .m) (sAt (K .m) x)
       → answers Secret bits₀ (bits ++ drop (K .m) bits₀) errs errs
   answers-secret bits bits₀ errs h is =
       let z : values K P R e ≡ secret (tab (K .m) (sAt (K .m) x)) = values-secret h in (
-        sym (ap answerOf z),
+        sym (ap says z),
         rw (is) (ap (λ (i : ℕ). tab (K .m) (sAt (K .m) x) ++ drop i bits₀) (sym (tab-length (K .m) (sAt (K .m) x)))) ∙ sym (ap (λ (v : Reading). bitsOf v bits₀) z),
         sym (ap (λ (v : Reading). errorsOf v errs) z),
       )
@@ -183,7 +183,7 @@ module _ (K : Key) (P R : Parts) (e : ℕ) (x : List ℕ) (J : Joined K P R e x)
       → answers (Square (e + 1) (w + 1) (getD x w 0) (getD x (K .m + w) 0)) bits bits errs errs
   answers-square w bits errs h is l =
       let z : values K P R e ≡ square (e + 1) (w + 1) (getD x w 0) (getD x (K .m + w) 0) = values-square w h is l in
-      (sym (ap answerOf z), sym (ap (λ (v : Reading). bitsOf v bits) z), sym (ap (λ (v : Reading). errorsOf v errs) z))
+      (sym (ap says z), sym (ap (λ (v : Reading). bitsOf v bits) z), sym (ap (λ (v : Reading). errorsOf v errs) z))
 
   uv-long : length (uvAt K x) ≡ K .n + K .m
   unfolding uvAt
@@ -193,7 +193,7 @@ module _ (K : Key) (P R : Parts) (e : ℕ) (x : List ℕ) (J : Joined K P R e x)
       → answers (Errors (e + 1)) bits bits errs₀ (errs ++ drop (K .n + K .m) errs₀)
   answers-errors w bits errs errs₀ h is l so =
       let z : values K P R e ≡ errors (e + 1) (uvAt K x) = values-errors w h is l in (
-        sym (ap answerOf z),
+        sym (ap says z),
         sym (ap (λ (v : Reading). bitsOf v bits) z),
         rw (so) (ap (λ (i : ℕ). uvAt K x ++ drop i errs₀) (sym uv-long)) ∙ sym (ap (λ (v : Reading). errorsOf v errs₀) z),
       )

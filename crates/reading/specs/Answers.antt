@@ -1,11 +1,11 @@
--- What the pair reader answers and what it leaves in each lent list, from document 01's answer. What follows the part that is
--- written stays as it was.
+-- What each answer of the pair reader means in document 01's numbers, and what it leaves in each lent list. What follows the part that
+-- is written stays as it was.
 -- Assumes nothing.
 use mathlib.Core.List.{List, _++_}
 use Prim.Native.Nat.{ℕ}
 use lib.ListN.{length, drop}
 use Rattle.protocol.specs.Pair as pair
-use Rattle.protocol.specs.Pair.{refusal, collision, secret, square, errors}
+use Rattle.protocol.specs.Pair.{refusal, collision, secret, square, errors, Said, refusedAs, foundAs, valueList}
 use Rattle.reading.specs.declared.Reading.{Reading}
 use Rattle.reading.specs.declared.Reading.the-variants.{Refused, Collision, Secret, Square, Errors}
 
@@ -13,12 +13,13 @@ use Rattle.reading.specs.declared.Reading.the-variants.{Refused, Collisi
 abbrev pub over : List ℕ → List ℕ → List ℕ
 over l before = l ++ drop (length l) before
 
-abbrev pub answerOf : pair.Reading → Reading
-answerOf (refusal n) = Refused n
-answerOf (collision kind e party one two) = Collision kind e party (length one)
-answerOf (secret bits) = Secret
-answerOf (square e k b d) = Square e k b d
-answerOf (errors e l) = Errors e
+-- document 01's number and values of each case of the answer
+abbrev pub means : Reading → Said
+means (Refused n) = refusedAs n
+means (Collision kind e i n) = foundAs 1 (valueList kind e i n 0 0 0)
+means Secret = foundAs 2 (valueList 0 0 0 0 0 0 0)
+means (Square e k b d) = foundAs 3 (valueList 0 e 0 0 k b d)
+means (Errors e) = foundAs 4 (valueList 0 e 0 0 0 0 0)
 
 -- both hash inputs of a collision
 abbrev pub hash1Of : pair.Reading → List ℕ → List ℕ

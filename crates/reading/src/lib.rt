@@ -13,10 +13,10 @@ ghost use Rattle.numbers.specs.Output.{vOf};
 ghost use Rattle.numbers.specs.Residue.{Residue};
 ghost use Rattle.protocol.specs.Prover.{solves};
 ghost use Rattle.protocol.specs.Transcript.{Parts};
-ghost use Rattle.protocol.specs.Pair.{values};
+ghost use Rattle.protocol.specs.Pair.{values, says};
 ghost use Rattle.key.specs.Numbers.{Limits, keyWith};
 ghost use Rattle.joined.specs.Joined.{Joined};
-ghost use Rattle.reading.specs.Answers.{answerOf, bitsOf, errorsOf};
+ghost use Rattle.reading.specs.Answers.{means, bitsOf, errorsOf};
 ghost use Rattle.reading.specs.Found.{Ready, sAt, uAt, wrongAt, isSecret, uvAt};
 use key::Numbers;
 
@@ -216,7 +216,7 @@ pub fn read_values(
     requires { ⌜ k .n + k .m ≤ length (now uv) ⌝ }
     requires { ⌜ e < 32 ⌝ }
     ensures { λ r. ⌜ ((P R : Parts) → Joined (keyWith k (now (entries .entry))) P R e (now (sums .entry)) →
-        (r ≡ answerOf (values (keyWith k (now (entries .entry))) P R e))
+        (means r ≡ says (values (keyWith k (now (entries .entry))) P R e))
         × (now (secret .exit) ≡ bitsOf (values (keyWith k (now (entries .entry))) P R e) (now (secret .entry)))
         × (now (uv .exit) ≡ errorsOf (values (keyWith k (now (entries .entry))) P R e) (now (uv .entry)))) ⌝ }
 {

@@ -1,4 +1,4 @@
--- Laws of the seed tree: lengths, what an opening gives back, and the two halves below a node.
+-- Laws of the seed tree: lengths, bytes, what an opening gives back, and the two halves below a node.
 -- Assumes nothing.
 use Prim.Native.Nat.{ℕ, zero, suc, _+_, _*_, _-_, _^_, _≤_, _<_}
 use mathlib.Core.Bool.{Bool, true, false}
@@ -11,8 +11,10 @@ use lib.Dec.{ltb}
 use lib.ListN.{length, take, drop, replicate, length-append, length-drop}
 use lib.Seq.{length-take-le, take-at, drop-at}
 use Rattle.lists.specs.Index.{pick, cat}
+use Rattle.lists.specs.ByteList.{Bytes, bytes-take, bytes-drop, bytes-pick, bytes-zeros}
 use Rattle.lists.specs.CatLaws.{cat-ext, cat-split, cat-length}
 use Rattle.streams.specs.Streams.{block-length}
+use Rattle.streams.specs.ByteLaws.{block-bytes}
 use Rattle.tree.specs.Tree.{left, right, leaf, opening, reopened}
 
 pick-length : (n : ℕ) (b : Bool) (x y : List ℕ) → length x ≡ n → length y ≡ n → length (pick b x y) ≡ n
@@ -55,6 +57,25 @@ reopened-length (suc d) h x i long =
     (pick-length 16 (ltb i (2 ^ d)) _ _
     (leaf-length d (take 16 x) i (length-take-le 16 x (omega arith)))
     (reopened-length d (h - 2 ^ d) (drop 16 x) (i - 2 ^ d) (length-drop 16 x ∙ (omega arith))))
+
+-- Seeds of bytes give leaves of bytes.
+pub leaf-bytes : (d : ℕ) (seed : List ℕ) (i : ℕ) → Bytes seed → Bytes (leaf d seed i)
+unfolding leaf
+leaf-bytes zero seed i b = b
+leaf-bytes (suc d) seed i b =
+    bytes-pick (ltb i (2 ^ d)) (leaf-bytes d (left seed) i (block-bytes seed _ b)) (leaf-bytes d (right seed) (i - 2 ^ d) (block-bytes seed _ b))
+
+pub reopened-bytes : (d h : ℕ) (x : List ℕ) (i : ℕ) → Bytes x → Bytes (reopened d h x i)
+unfolding reopened
+reopened-bytes zero h x i b = bytes-zeros 16
+reopened-bytes (suc d) h x i b =
+    bytes-pick (ltb h (2 ^ d))
+    (bytes-pick (ltb i (2 ^ d))
+    (reopened-bytes d h (take (16 * d) x) i (bytes-take (16 * d) x b))
+    (leaf-bytes d (drop (16 * d) x) (i - 2 ^ d) (bytes-drop (16 * d) x b)))
+    (bytes-pick (ltb i (2 ^ d))
+    (leaf-bytes d (take 16 x) i (bytes-take 16 x b))
+    (reopened-bytes d (h - 2 ^ d) (drop 16 x) (i - 2 ^ d) (bytes-drop 16 x b)))
 
 -- The leaves recomputed from an opening are the original ones, but for the hidden leaf.
 pub reopens : (d : ℕ) (seed : List ℕ) (h i : ℕ) → h < 2 ^ d → i < 2 ^ d → (i ≡ h → ⊥)

@@ -20,14 +20,10 @@ fn load(path: &[u8], buf: &mut [u8]) -> usize
 fn main() {
     let mut key = io::large_buffer();
     let mut run = io::large_buffer();
+    let mut text = [0u8; 19];
     let k = load(b"key", &mut key);
     let r = load(b"run", &mut run);
     let number = badge::badge_judge(&key[..k], &run[..r]);
-    if number == 0 {
-        io::write_all(STDOUT_FILENO, b"accepted\n");
-        return;
-    }
-    io::write_all(STDOUT_FILENO, b"refused ");
-    io::print_decimal(STDOUT_FILENO, number as u64);
-    io::write_all(STDOUT_FILENO, b"\n");
+    let n = line::verdict_line(number, &mut text);
+    io::write_all(STDOUT_FILENO, &text[..n]);
 }

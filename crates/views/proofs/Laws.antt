@@ -1,16 +1,17 @@
 -- From the parts and rows that the code feeds to the hash inputs of document 01.
 -- Assumes nothing.
-use Prim.Native.Nat.{ℕ, suc, _+_, _*_, _-_, _%_, _<_, _≤_}
+use Prim.Native.Nat.{ℕ, zero, suc, _+_, _*_, _-_, _%_, _<_, _≤_}
 use mathlib.Core.Path.{_≡_, refl, sym, _∙_, ap, ap₂}
 use mathlib.Core.List.{List, [], _++_}
+use native.Mathlib.Nat.{sub-zero, zero-sub, suc-sub-suc}
 use native.Mathlib.Numerals.{add-one}
 use native.Mathlib.Omega.{arith}
 use native.Mathlib.Decide.{ℕ-discrete}
 use borrow.Author.Tests.{eq-eqb, ne-eqb}
 use lib.Dec.{eqb}
-use lib.ListN.{length, getD, take, drop, set}
-use lib.Seq.{length-take-le, getD-take, getD-drop}
-use Rattle.lists.specs.Tab.{tab, tab-at, tab-length, tab-ext, list-is-tab, Filling}
+use lib.ListN.{length, getD, take, drop, set, replicate, List·getD-append}
+use lib.Seq.{getD-take, getD-drop, take-at}
+use Rattle.lists.specs.Tab.{tab, tab-at, tab-length, tab-ext, list-is-tab}
 use Rattle.lists.specs.Index.{pick, cat, part}
 use Rattle.lists.specs.Bytes.{words, nums, num}
 use Rattle.lists.specs.CatLaws.{cat-more, cat-ext, nums-ext, words-tab, part-length}
@@ -36,10 +37,24 @@ words-part x a n h =
     ap words (list-is-tab n (part x a n) (λ k. getD x (a + k) 0) (part-length x a n h) (λ k y. getD-take n (drop a x) k 0 y ∙ getD-drop a x k 0))
     ∙ words-tab n (λ k. getD x (a + k) 0)
 
--- the first i entries of a list that is filled in order
-pub front : {n : ℕ} {r : List ℕ} {i : ℕ} {f : ℕ → ℕ} → Filling n r i f → take i r ≡ tab i f
-front {n} {r} {i} {f} so =
-    list-is-tab i (take i r) f (length-take-le i r (rw (so .long) (so .within))) (λ k h. getD-take i r k 0 h ∙ so .filled k h)
+-- a row: the entries of f, and zeros up to 32
+drop-zeros : (n i : ℕ) → drop {A = ℕ} i (replicate n 0) ≡ replicate (n - i) 0
+drop-zeros n zero = rw (sub-zero n)
+drop-zeros zero (suc i) = rw (zero-sub (suc i))
+drop-zeros (suc n) (suc i) = rw (suc-sub-suc n i) (drop-zeros n i)
+
+pub row-done : (n : ℕ) (f : ℕ → ℕ) {r : List ℕ} → r ≡ tab n f ++ drop {A = ℕ} n (replicate 32 0) → r ≡ tab n f ++ replicate (32 - n) 0
+row-done n f e = e ∙ ap (λ (x : List ℕ). tab n f ++ x) (drop-zeros 32 n)
+
+-- the entries in front of a row
+pub front : (n : ℕ) (f : ℕ → ℕ) {r : List ℕ} → r ≡ tab n f ++ replicate (32 - n) 0 → take n r ≡ tab n f
+front n f e = ap (take n) e ∙ take-at (tab n f) (replicate (32 - n) 0) n (tab-length n f)
+
+-- their sum
+pub sum-front : (n : ℕ) (f : ℕ → ℕ) {r : List ℕ} → r ≡ tab n f ++ replicate (32 - n) 0 → sum n (λ i. getD r i 0) ≡ sum n f
+sum-front n f e =
+    sum-ext n
+    (λ i h. ap (λ (x : List ℕ). getD x i 0) e ∙ (List·getD-append (tab n f) (replicate (32 - n) 0) 0 i (rw (tab-length n f) h) ∙ tab-at n f i h))
 
 -- the sum of a list's entries by the rule of the list
 pub sum-tab : (n : ℕ) (xs : List ℕ) (f : ℕ → ℕ) → xs ≡ tab n f → sum (length xs) (λ i. getD xs i 0) ≡ sum n f

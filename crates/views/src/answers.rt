@@ -2,8 +2,8 @@
 
 ghost use mathlib.Core.Path.{_≡_};
 ghost use mathlib.Core.List.{_++_};
-ghost use Prim.Native.Nat.{_+_, _*_, _<_, _≤_};
-ghost use lib.ListN.{length, getD, take, drop};
+ghost use Prim.Native.Nat.{_+_, _*_, _-_, _<_, _≤_};
+ghost use lib.ListN.{length, getD, drop, replicate};
 ghost use Rattle.lists.specs.Tab.{tab};
 ghost use Rattle.numbers.specs.Sum.{sum};
 ghost use Rattle.sha_core.specs.Fips180.{sha256};
@@ -42,7 +42,20 @@ fn alpha(
     numbers::sub_mod(work[s], work[b], q)
 }
 
-// α(k, 1) .. α(k, N), in front.
+// A number of Π's list: its column and its party.
+struct Entry {
+    k: usize,
+    i: usize,
+}
+
+// Number `place` of a line of Π's list. Each column has a line, in which each party has a number: i runs fastest.
+fn entry_at(line: usize, place: usize) -> Entry
+    ensures { λ r. ⌜ (r .k ≡ line) × (r .i ≡ place) ⌝ }
+{
+    Entry { k: line, i: place }
+}
+
+// α(k, 1) .. α(k, N), then zeros.
 pub fn alpha_row(
     q: u32,
     m: usize,
@@ -57,22 +70,24 @@ pub fn alpha_row(
     requires { ⌜ k < m ⌝ }
     requires { ⌜ (hidden < parties → 4 * m ≤ length (now given)) ⌝ }
     requires { ⌜ 3 * m * parties ≤ length (now work) ⌝ }
-    ensures { λ r. ⌜ take parties r ≡ tab parties (alphaAt q m hidden (now (given .entry)) (now (work .entry)) k) ⌝ }
+    ensures { λ r. ⌜ r ≡ tab parties (alphaAt q m hidden (now (given .entry)) (now (work .entry)) k) ++ replicate (32 - parties) 0 ⌝ }
 {
     let mut row = [0u32; 32];
     for i in 0..parties {
-        let a = alpha(q, m, parties, hidden, k, i, given, work);
+        let e = entry_at(k, i);
+        let a = alpha(q, m, parties, hidden, e.k, e.i, given, work);
         row[i] = a;
     }
     row
 }
 
-// The sum of a row.
-pub fn total(xs: &[u32]) -> u64
-    requires { ⌜ length (now xs) ≤ 32 ⌝ }
-    ensures { λ r. ⌜ r ≡ sum (length (now (xs .entry))) (λ i. getD (now (xs .entry)) i 0) ⌝ }
+// The sum of the first numbers of a list.
+pub fn total(xs: &[u32], count: usize) -> u64
+    requires { ⌜ count ≤ 32 ⌝ }
+    requires { ⌜ count ≤ length (now xs) ⌝ }
+    ensures { λ r. ⌜ r ≡ sum count (λ i. getD (now (xs .entry)) i 0) ⌝ }
 {
-    shares::column(xs, 0, 1, xs.len())
+    shares::column(xs, 0, 1, count)
 }
 
 // Π: all α(k, i), i running fastest, and block 2e of the seed κ. The sums α(1) .. α(m) go to the front of `sums`.
@@ -102,7 +117,7 @@ pub fn pi_of(
         let row = alpha_row(q, m, parties, hidden, k, given, work);
         let t = feed::numbers(s, &row[..parties]);
         s = t;
-        let a = numbers::reduced(total(&row[..parties]), q);
+        let a = numbers::reduced(total(&row, parties), q);
         sums[k] = a;
     }
     let g = streams::block_of(kappa, 2 * execution as u64);

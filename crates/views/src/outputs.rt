@@ -32,5 +32,5 @@ pub fn sum_is_zero(q: u32, outs: &[u32]) -> bool
     requires { ⌜ length (now outs) ≤ 32 ⌝ }
     ensures { λ r. ⌜ r ≡ eqb (sum (length (now (outs .entry))) (λ i. getD (now (outs .entry)) i 0) % q) 0 ⌝ }
 {
-    numbers::reduced(answers::total(outs), q) == 0
+    numbers::reduced(answers::total(outs, outs.len()), q) == 0
 }

@@ -10,7 +10,7 @@ use borrow.Author.Tests.{eqb-true, leb-true, eq-eqb, not-false}
 use lib.Dec.{eqb, leb, ltb}
 use lib.ListN.{length, getD, take, drop}
 use Rattle.lists.specs.Index.{pick, every, same, part}
-use Rattle.lists.specs.Check.{Check, _⇒_, accepted, first}
+use Rattle.lists.specs.Check.{Check, _⇒_, first}
 use Rattle.lists.specs.TestLaws.{decide, clash, pick-true, pick-false, every-at, count-hit, count-miss, count-below, count-le, count-mono, count-not, holds-each, first-nil, first-hit, first-miss, not-of-true, not-of-false}
 use Rattle.lists.specs.CatLaws.{part-length}
 use Rattle.numbers.specs.Sum.{sum}
@@ -22,13 +22,14 @@ use Rattle.protocol.specs.Transcript.{Parts}
 use Rattle.protocol.specs.Judge.{hidden, givenCount, replySize, replyAt, given, κ, masterAt, ΩAt, openedView, keptView, view, goodNumbers, formChecks, executionChecks}
 use Rattle.protocol.proofs.Opened.{opened-count, place-lt}
 use Rattle.protocol.proofs.Sizes.{hidden-length, hidden-lt}
-use Rattle.refusals.specs.Number.{numberOf, none-applies}
+use Rattle.refusals.specs.Number.{numberOf}
 use Rattle.execution.specs.Prepared.{Given, lastCount}
 use Rattle.execution.proofs.Held.{given-count, given-good}
 use Rattle.transcript.specs.Replies.{size-kept, at-opened, at-kept, reply-within}
 use Rattle.views.specs.Opened.{OpenedHash}
 use Rattle.kept.specs.Kept.{KeptIn, Evaluates}
-use Rattle.walk.specs.Walk.{Standing, Reached, Stepped, checksAt, keptTests}
+use Rattle.walk.specs.Walk.{Standing, Reached, Stepped, keptTests}
+use Rattle.walk.proofs.Going.{place-at}
 
 -- ---- slices and tests
 pub slice-long : (x : List ℕ) (a n : ℕ) → a + n ≤ length x → length (take (a + n - a) (drop a x)) ≡ n
@@ -98,10 +99,8 @@ module _ {q n m N M τ D : ℕ} {entries p2 p3 p4 p6 p7 : List ℕ} {K : Key} {P
       pub opened-step : {h : List ℕ} → OpenedHash q m N D e (take (16 * r + 16 - 16 * r) (drop (16 * r) p3)) h → Stepped K P e 0 h h h (r + 1) at
       unfolding rank
       opened-step {h} made =
-          let clear : first (checksAt K P e) ≡ accepted = ap (λ (b : Bool). first (pick b [] (executionChecks K P e))) opened-P ∙ first-nil in
           record {
-            code-is = sym (ap numberOf clear);
-            clean = λ _. clear;
+            code-is = λ c. absurd (clash opened-P c);
             h-is = made .is K (λ k. 0) (so .sized) (so .deep) ∙ ap (λ (x : View). sha256 (hin K x)) (sym view-opened);
             Π-is = λ c. absurd (clash opened-P c);
             Ψ-is = λ c. absurd (clash opened-P c);
@@ -121,8 +120,7 @@ module _ {q n m N M τ D : ℕ} {entries p2 p3 p4 p6 p7 : List ℕ} {K : Key} {P
       rank-most = omega (arith, here .rank-is, count-le e (opened (P .p2)))
 
       place-is : place (P .p2) e ≡ e - r
-      unfolding place rank
-      place-is = omega (arith, here .rank-is, count-not e (opened (P .p2)))
+      place-is = place-at K P here
 
       pub place-below : e - r < M - τ
       place-below = omega (arith, place-is, place-lt K (P .p2) good-E e inside kept-P, so .executions, so .openings)
@@ -208,21 +206,15 @@ module _ {q n m N M τ D : ℕ} {entries p2 p3 p4 p6 p7 : List ℕ} {K : Key} {P
                 (λ y. ap₂ (λ (a b : List ℕ). pick (eqb (suc (hidden K P e)) (K .N)) true (same a b)) omega-is (ev .Ω-is (λ z. clash (eq-eqb _ _ z) y)))
                 (decide (eqb (suc (hidden K P e)) (K .N))))
 
-            tests-are : keptTests good zero ≡ checksAt K P e
+            code-kept : code ≡ numberOf (first (executionChecks K P e))
             unfolding executionChecks
-            tests-are =
-                ap₂ (λ (a b : Bool). keptTests a b) good-is (ev .answers .zero-is)
-                ∙ sym (pick-false (opened (P .p2) e) [] (executionChecks K P e) kept-P)
-
-            code-kept : code ≡ numberOf (first (checksAt K P e))
-            code-kept = c ∙ ap (λ (l : List Check). numberOf (first l)) tests-are
+            code-kept = c ∙ ap₂ (λ (a b : Bool). numberOf (first (keptTests a b))) good-is (ev .answers .zero-is)
 
             pub kept-step : Stepped K P e code h pi psi r end
             unfolding rank
             kept-step =
                 record {
-                  code-is = code-kept;
-                  clean = λ z. sym (ap first tests-are) ∙ none-applies (keptTests good zero) (omega arith, (omega arith, tt)) (sym c ∙ z);
+                  code-is = λ _. code-kept;
                   h-is = ev .h-is ∙ ap (λ (x : View). sha256 (hin K x)) (sym view-kept);
                   Π-is = λ _. ev .answers .Π-is ∙ ap (λ (x : View). sha256 (Πin K x (κ K P))) (sym view-kept);
                   Ψ-is = λ _. ev .answers .Ψ-is ∙ ap (λ (x : View). sha256 (Ψin K x (κ K P) (P .p4))) (sym view-kept);

@@ -9,7 +9,7 @@ use lib.ListN.{length, take, drop, length-append, length-drop}
 use lib.Seq.{length-take-le, drop-drop, take-add}
 use Rattle.lists.specs.Index.{part}
 use Rattle.lists.specs.CatLaws.{part-length, part-mid, part-left, part-right, part-part}
-use Rattle.walk.specs.Walk.{put, Stored}
+use Rattle.walk.specs.Walk.{put, placed, Stored}
 
 pub put-long : (x ys : List ℕ) (at n : ℕ) → length ys ≡ n → at + n ≤ length x → length (put x at n ys) ≡ length x
 put-long x ys at n e h =
@@ -43,13 +43,22 @@ put-next x ys at n i k e w h =
     regroup : (a b c d : List ℕ) → (a ++ b) ++ (c ++ d) ≡ a ++ (b ++ c) ++ d
     regroup a b c d = simp append-assoc
 
--- an opened execution: only h(e)
-pub stored-opened : {M c e p : ℕ} {t : Bool} (h pi psi x : List ℕ) {y : List ℕ} → t ≡ true → e < M → length h ≡ 32 → length x ≡ 32 * M + 64 * c → p ≤ c
-    → y ≡ h → Stored M c e p t h pi psi x (put x (32 * e) (32 * e + 32 - 32 * e) y)
+-- of an opened execution only h(e) is stored
+pub placed-same : (M c e p : ℕ) (t : Bool) (h x : List ℕ) {pi psi pi′ psi′ : List ℕ} → (t ≡ false → pi ≡ pi′) → (t ≡ false → psi ≡ psi′)
+    → placed M c e p t h pi psi x ≡ placed M c e p t h pi′ psi′ x
+placed-same M c e p true h x a b = refl
+placed-same M c e p false h x a b = λ i. placed M c e p false h (a refl i) (b refl i) x
+
+pub stored-opened : {M c e p : ℕ} {t : Bool} (h pi psi x : List ℕ) {y : List ℕ} → t ≡ true → e < M → length h ≡ 32 → length x ≡ 32 * M + 64 * c → p ≤ c → y ≡ h
+    → Stored M c e p t h pi psi x (put x (32 * e) (32 * e + 32 - 32 * e) y) × (put x (32 * e) (32 * e + 32 - 32 * e) y ≡ placed M c e p t h pi psi x)
 stored-opened {M} {c} {e} {p} {t} h pi psi x {y} is below lh lx lp ey =
     let n : 32 * e + 32 - 32 * e ≡ 32 = omega arith in
-    subst (λ (z : List ℕ). Stored M c e p t h pi psi x z) (sym (λ i. put x (32 * e) (n i) (ey i)))
-    (subst (λ (b : Bool). Stored M c e p b h pi psi x (put x (32 * e) 32 h)) (sym is) made)
+    let eq : put x (32 * e) (32 * e + 32 - 32 * e) y ≡ placed M c e p t h pi psi x =
+    (λ i. put x (32 * e) (n i) (ey i)) ∙ ap (λ (b : Bool). placed M c e p b h pi psi x) (sym is) in (
+      subst (λ (z : List ℕ). Stored M c e p t h pi psi x z) (sym eq)
+          (subst (λ (b : Bool). Stored M c e p b h pi psi x (placed M c e p b h pi psi x)) (sym is) made),
+      eq,
+    )
   where
     same : (i : ℕ) → 32 * M ≤ i → part (put x (32 * e) 32 h) i (32 * p + 0) ≡ part x i (32 * p) ++ []
     same i l =
@@ -68,16 +77,23 @@ stored-opened {M} {c} {e} {p} {t} h pi psi x {y} is below lh lx lp ey =
 -- a kept one: all three
 pub stored-kept : {M c e p : ℕ} {t : Bool} (h pi psi x : List ℕ) {y z w : List ℕ} → t ≡ false → e < M → p < c → length h ≡ 32 → length pi ≡ 32 → length psi ≡ 32
     → length x ≡ 32 * M + 64 * c → y ≡ h → z ≡ pi → w ≡ psi
-    → Stored M c e p t h pi psi x
-    (put (put (put x (32 * e) (32 * e + 32 - 32 * e) y) (32 * M + 32 * p) (32 * M + 32 * p + 32 - (32 * M + 32 * p)) z) (32 * M + 32 * p + 32 * c)
-    (32 * M + 32 * p + 32 * c + 32 - (32 * M + 32 * p + 32 * c)) w)
-stored-kept {M} {c} {e} {p} {t} h pi psi x {y} {z} {w} is below lp lh li ls lx ey ez ew =
+    → (a : List ℕ)
+    → a ≡ put (put (put x (32 * e) (32 * e + 32 - 32 * e) y) (32 * M + 32 * p) (32 * M + 32 * p + 32 - (32 * M + 32 * p)) z) (32 * M + 32 * p + 32 * c)
+    (32 * M + 32 * p + 32 * c + 32 - (32 * M + 32 * p + 32 * c)) w
+    → Stored M c e p t h pi psi x a × (a ≡ placed M c e p t h pi psi x)
+stored-kept {M} {c} {e} {p} {t} h pi psi x {y} {z} {w} is below lp lh li ls lx ey ez ew a is-a =
     let n1 : 32 * e + 32 - 32 * e ≡ 32 = omega arith in
     let n2 : 32 * M + 32 * p + 32 - (32 * M + 32 * p) ≡ 32 = omega arith in
+    let at : 32 * M + 32 * p + 32 * c ≡ 32 * M + 32 * c + 32 * p = omega arith in
     let n3 : 32 * M + 32 * p + 32 * c + 32 - (32 * M + 32 * p + 32 * c) ≡ 32 = omega arith in
-    subst (λ (l : List ℕ). Stored M c e p t h pi psi x l)
-    (sym (λ i. put (put (put x (32 * e) (n1 i) (ey i)) (32 * M + 32 * p) (n2 i) (ez i)) (32 * M + 32 * p + 32 * c) (n3 i) (ew i)))
-    (subst (λ (b : Bool). Stored M c e p b h pi psi x third) (sym is) made)
+    let eq : a ≡ placed M c e p t h pi psi x =
+    is-a
+    ∙ ((λ i. put (put (put x (32 * e) (n1 i) (ey i)) (32 * M + 32 * p) (n2 i) (ez i)) (at i) (n3 i) (ew i))
+    ∙ ap (λ (b : Bool). placed M c e p b h pi psi x) (sym is)) in (
+      subst (λ (l : List ℕ). Stored M c e p t h pi psi x l) (sym eq)
+          (subst (λ (b : Bool). Stored M c e p b h pi psi x (placed M c e p b h pi psi x)) (sym is) made),
+      eq,
+    )
   where
     one : List ℕ
     one = put x (32 * e) 32 h
@@ -86,7 +102,7 @@ stored-kept {M} {c} {e} {p} {t} h pi psi x {y} {z} {w} is below lp lh li ls lx e
     two = put one (32 * M + 32 * p) 32 pi
 
     third : List ℕ
-    third = put two (32 * M + 32 * p + 32 * c) 32 psi
+    third = put two (32 * M + 32 * c + 32 * p) 32 psi
 
     long1 : length one ≡ length x
     long1 = put-long x h (32 * e) 32 lh (omega arith)
@@ -95,22 +111,22 @@ stored-kept {M} {c} {e} {p} {t} h pi psi x {y} {z} {w} is below lp lh li ls lx e
     long2 = put-long one pi (32 * M + 32 * p) 32 li (omega (arith, long1)) ∙ long1
 
     long3 : length third ≡ length x
-    long3 = put-long two psi (32 * M + 32 * p + 32 * c) 32 ls (omega (arith, long2)) ∙ long2
+    long3 = put-long two psi (32 * M + 32 * c + 32 * p) 32 ls (omega (arith, long2)) ∙ long2
 
     made : Stored M c e p false h pi psi x third
     made =
         record {
           long = long3;
           Γ =
-              put-below two psi (32 * M + 32 * p + 32 * c) 32 0 (32 * e + 32) (omega arith) (omega (arith, long2))
+              put-below two psi (32 * M + 32 * c + 32 * p) 32 0 (32 * e + 32) (omega arith) (omega (arith, long2))
               ∙ (put-below one pi (32 * M + 32 * p) 32 0 (32 * e + 32) (omega arith) (omega (arith, long1))
               ∙ put-next x h (32 * e) 32 0 (32 * e) lh (omega arith) (omega arith));
           Π =
-              put-below two psi (32 * M + 32 * p + 32 * c) 32 (32 * M) (32 * p + 32) (omega arith) (omega (arith, long2))
+              put-below two psi (32 * M + 32 * c + 32 * p) 32 (32 * M) (32 * p + 32) (omega arith) (omega (arith, long2))
               ∙ (put-next one pi (32 * M + 32 * p) 32 (32 * M) (32 * p) li refl (omega (arith, long1))
               ∙ ap (λ (y : List ℕ). y ++ pi) (put-above x h (32 * e) 32 (32 * M) (32 * p) lh (omega arith) (omega arith)));
           Ψ =
-              put-next two psi (32 * M + 32 * p + 32 * c) 32 (32 * M + 32 * c) (32 * p) ls (omega arith) (omega (arith, long2))
+              put-next two psi (32 * M + 32 * c + 32 * p) 32 (32 * M + 32 * c) (32 * p) ls (omega arith) (omega (arith, long2))
               ∙ ap (λ (y : List ℕ). y ++ psi)
               (put-below-or-above ∙ put-above x h (32 * e) 32 (32 * M + 32 * c) (32 * p) lh (omega arith) (omega arith));
         }

@@ -1,7 +1,7 @@
 -- The judge's walk over the executions. D is the depth of the seed tree; r of the executions before e are opened, and the reply of e
 -- begins at byte `at` of part 7.
 -- Assumes nothing.
-use Prim.Native.Nat.{ℕ, _+_, _*_, _-_, _^_, _<_, _≤_}
+use Prim.Native.Nat.{ℕ, zero, suc, _+_, _*_, _-_, _^_, _<_, _≤_}
 use mathlib.Core.Path.{_≡_}
 use mathlib.Core.Bool.{Bool, false, not}
 use mathlib.Core.List.{List, [], _∷_, _++_}
@@ -12,14 +12,15 @@ use Rattle.lists.specs.TestLaws.{Clean}
 use Rattle.numbers.specs.Inverse.{Member, Ns}
 use Rattle.numbers.specs.Sum.{sum}
 use Rattle.sha_core.specs.Fips180.{sha256}
-use Rattle.protocol.specs.Key.{Key, depth}
+use Rattle.protocol.specs.Key.{Key, depth, keptCount}
 use Rattle.protocol.specs.Shares.{hin, Πin, Ψin}
-use Rattle.protocol.specs.Prover.{opened, rank}
+use Rattle.protocol.specs.Prover.{opened, rank, place}
 use Rattle.protocol.specs.Transcript.{Parts}
 use Rattle.protocol.specs.Judge.{replySize, κ, view, formChecks, executionChecks}
+use Rattle.protocol.specs.Pair.{isAccepted}
 use Rattle.refusals.specs.Number.{numberOf}
 use Rattle.execution.specs.Shown.{Limits, Sized}
-use Rattle.walk.specs.Lists.{Listed}
+use Rattle.walk.specs.Lists.{hπFrom, hψFrom, Listed}
 
 -- the seven parts
 abbrev pub partsFrom : List ℕ → List ℕ → List ℕ → List ℕ → List ℕ → List ℕ → List ℕ → Parts
@@ -74,10 +75,9 @@ abbrev pub ΠAt : Key → Parts → ℕ → List ℕ
 abbrev pub ΨAt : Key → Parts → ℕ → List ℕ
 ΨAt K P e = sha256 (Ψin K (view K P e) (κ K P) (P .p4))
 
--- what the judge computes of execution e
+-- what the judge computes of execution e; of an opened one only h(e) counts
 pub record Stepped (K : Key) (P : Parts) (e code : ℕ) (h pi psi : List ℕ) (r at : ℕ) : Type 0 where
-  pub code-is : code ≡ numberOf (first (checksAt K P e))
-  pub clean : code ≡ 0 → first (checksAt K P e) ≡ accepted
+  pub code-is : opened (P .p2) e ≡ false → code ≡ numberOf (first (executionChecks K P e))
   pub h-is : h ≡ hashAt K P e
   pub Π-is : opened (P .p2) e ≡ false → pi ≡ ΠAt K P e
   pub Ψ-is : opened (P .p2) e ≡ false → psi ≡ ΨAt K P e
@@ -87,6 +87,18 @@ pub record Stepped (K : Key) (P : Parts) (e code : ℕ) (h pi psi : List ℕ) (r
 abbrev pub put : List ℕ → ℕ → ℕ → List ℕ → List ℕ
 put x at n ys = take at x ++ (ys ++ drop n (drop at x))
 
+-- x with the digests of execution e stored; a kept one has p others before it
+abbrev pub placed : (M c e p : ℕ) → Bool → (h pi psi x : List ℕ) → List ℕ
+placed M c e p opened h pi psi x =
+    pick opened (put x (32 * e) 32 h) (put (put (put x (32 * e) 32 h) (hπFrom M + 32 * p) 32 pi) (hψFrom M c + 32 * p) 32 psi)
+
+-- x after the executions before e: each stores its digests, unless it or one before it is refused
+unfoldable pub stored : Key → Parts → ℕ → List ℕ → List ℕ
+stored K P zero x = x
+stored K P (suc e) x =
+    pick (isAccepted (first (cat (suc e) (checksAt K P))))
+    (placed (K .M) (keptCount K) e (place (P .p2) e) (opened (P .p2) e) (hashAt K P e) (ΠAt K P e) (ΨAt K P e) (stored K P e x)) (stored K P e x)
+
 -- the digests of execution e are stored
 pub record Stored (M c e p : ℕ) (opened : Bool) (h pi psi before after : List ℕ) : Type 0 where
   pub long : length after ≡ length before
@@ -94,23 +106,25 @@ pub record Stored (M c e p : ℕ) (opened : Bool) (h pi psi before after : List 
   pub Π : part after (32 * M) (32 * p + pick opened 0 32) ≡ part before (32 * M) (32 * p) ++ pick opened [] pi
   pub Ψ : part after (32 * M + 32 * c) (32 * p + pick opened 0 32) ≡ part before (32 * M + 32 * c) (32 * p) ++ pick opened [] psi
 
--- what the list holds once the executions before e are done, and no refusal
-pub record Going (K : Key) (P : Parts) (M c e r at : ℕ) (lists : List ℕ) : Type 0 where
+-- what the list, x at first, holds once the executions before e are done, and no refusal
+pub record Going (K : Key) (P : Parts) (M c e r at : ℕ) (x lists : List ℕ) : Type 0 where
   pub reached : Reached e r at K P
+  pub lists-are : lists ≡ stored K P e x
   pub Γs : part lists 0 (32 * e) ≡ cat e (hashAt K P)
   pub Πs : part lists (32 * M) (32 * (e - r)) ≡ cat e (λ j. pick (opened (P .p2) j) [] (ΠAt K P j))
   pub Ψs : part lists (32 * M + 32 * c) (32 * (e - r)) ≡ cat e (λ j. pick (opened (P .p2) j) [] (ΨAt K P j))
   pub clean : first (cat e (checksAt K P)) ≡ accepted
 
--- after the last execution: the first refusal, or the inputs of the three list hashes
-pub record Walked (K : Key) (P : Parts) (code : ℕ) (lists : List ℕ) : Type 0 where
+-- after the last execution: the first refusal, and the list, which was x; the inputs of the three list hashes if there is no refusal
+pub record Walked (K : Key) (P : Parts) (code : ℕ) (x lists : List ℕ) : Type 0 where
   pub code-is : code ≡ numberOf (first (cat (K .M) (checksAt K P)))
   pub clean : code ≡ 0 → first (cat (K .M) (checksAt K P)) ≡ accepted
+  pub lists-are : lists ≡ stored K P (K .M) x
   pub listed : code ≡ 0 → Listed K P lists
 
 -- Ω and the sum of a kept execution, and the last three tests, on what was computed
-abbrev pub keptTests : (omega zero : Bool) → List Check
-keptTests omega zero = not omega ⇒ 16 ∷ not zero ⇒ 15 ∷ []
+abbrev pub keptTests : (good balanced : Bool) → List Check
+keptTests good balanced = not good ⇒ 16 ∷ not balanced ⇒ 15 ∷ []
 
 abbrev pub hashTests : (p1 gamma given pi p5 psi : List ℕ) → List Check
 hashTests p1 gamma given pi p5 psi = not (same p1 gamma) ⇒ 17 ∷ not (same given pi) ⇒ 18 ∷ not (same p5 psi) ⇒ 19 ∷ []

@@ -4,12 +4,13 @@ ghost use mathlib.Core.Path.{_≡_};
 ghost use mathlib.Core.Bool.{false};
 ghost use Prim.Native.Nat.{_+_, _*_, _-_, _<_, _≤_};
 ghost use lib.ListN.{length};
+ghost use Rattle.lists.specs.Index.{pick};
 ghost use Rattle.lists.specs.Check.{first};
 ghost use Rattle.refusals.specs.Number.{numberOf};
 ghost use Rattle.protocol.specs.Key.{Key};
 ghost use Rattle.protocol.specs.Transcript.{Parts};
 ghost use Rattle.walk.specs.Lists.{listsSize};
-ghost use Rattle.walk.specs.Walk.{Within, Standing, Stood, Stored, Walked, hashTests};
+ghost use Rattle.walk.specs.Walk.{Within, Standing, Stood, placed, Stored, Walked, hashTests};
 use crate::round;
 use refusals::H_GAMMA;
 use refusals::H_PI;
@@ -36,6 +37,7 @@ fn store(
     requires { ⌜ length (now psi) ≡ 32 ⌝ }
     requires { ⌜ length (now lists) ≡ listsSize executions kept ⌝ }
     ensures { λ _. ⌜ Stored executions kept e place opened (now (h .entry)) (now (pi .entry)) (now (psi .entry)) (now (lists .entry)) (now (lists .exit)) ⌝ }
+    ensures { λ _. ⌜ now (lists .exit) ≡ placed executions kept e place opened (now (h .entry)) (now (pi .entry)) (now (psi .entry)) (now (lists .entry)) ⌝ }
 {
     let a = 32 * e;
     let b = a + 32;
@@ -49,6 +51,16 @@ fn store(
     let f = c + 32 * kept;
     let g = f + 32;
     streams::copy(psi, &mut lists[f..g]);
+}
+
+// The refusal that counts: an opened execution has no tests.
+fn counted(opened: bool, code: u32) -> u32
+    ensures { λ r. ⌜ r ≡ pick opened 0 code ⌝ }
+{
+    if opened {
+        return 0;
+    }
+    code
 }
 
 // Every execution in turn: the first refusal, or 0 and the inputs of the three list hashes.
@@ -76,7 +88,7 @@ pub fn walk(
     requires { ⌜ n * (m + 1) ≤ length (now entries) ⌝ }
     requires { ⌜ length (now lists) ≡ listsSize executions (executions - openings) ⌝ }
     requires { ⌜ 3 * m * parties ≤ length (now work) ⌝ }
-    ensures { λ r. ⌜ ((K : Key) (P : Parts) → Standing q n m parties executions openings depth (now (entries .entry)) (now (p2 .entry)) (now (p3 .entry)) (now (p4 .entry)) (now (p6 .entry)) (now (p7 .entry)) K P → Walked K P r (now (lists .exit))) ⌝ }
+    ensures { λ r. ⌜ ((K : Key) (P : Parts) → Standing q n m parties executions openings depth (now (entries .entry)) (now (p2 .entry)) (now (p3 .entry)) (now (p4 .entry)) (now (p6 .entry)) (now (p7 .entry)) K P → Walked K P r (now (lists .entry)) (now (lists .exit))) ⌝ }
     ensures { λ _. ⌜ length (now (lists .exit)) ≡ length (now (lists .entry)) ⌝ }
 {
     let kept = executions - openings;
@@ -105,10 +117,11 @@ pub fn walk(
         let h = r.h;
         let pi = r.pi;
         let psi = r.psi;
-        if r.code != 0 {
-            return r.code;
-        }
         let opened = forms::is_opened(p2, e);
+        let code = counted(opened, r.code);
+        if code != 0 {
+            return code;
+        }
         store(executions, kept, e, e - rank, opened, &h, &pi, &psi, lists);
         rank = r.rank;
         at = r.at;

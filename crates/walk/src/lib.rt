@@ -1,4 +1,4 @@
 // The judge's walk over the executions of a transcript whose form is good.
 
 pub mod hashes;
-pub mod round;
+mod round;

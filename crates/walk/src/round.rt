@@ -16,7 +16,7 @@ use execution::prepare;
 use refusals::OMEGA;
 use refusals::OUTPUT_SUM;
 
-// What the judge computes of an execution; rank and place of the next one.
+// What the judge computes of an execution, of an opened one only h; rank and place of the next one.
 pub struct Step {
     pub code: u32,
     pub h: [u8; 32],

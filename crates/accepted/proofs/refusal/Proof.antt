@@ -1,6 +1,6 @@
 -- `refusal` meets its contract. Assumes nothing.
 use Prim.Native.Nat.{ℕ}
-use mathlib.Core.Path.{_≡_, refl, sym, _∙_}
+use mathlib.Core.Path.{_≡_, sym, _∙_}
 use mathlib.Core.Bool.{true}
 use mathlib.Core.List.{List}
 use native.Mathlib.Omega.{arith}
@@ -11,7 +11,7 @@ use Rattle.protocol.specs.Judge.{runChecks}
 use Rattle.protocol.specs.Pair.{isAccepted}
 use Rattle.key.specs.Numbers.{keyWith, of-with}
 use Rattle.fork.specs.Fork.{Headed, accepted-headed}
-use Rattle.accepted.proofs.Laws.{run-accepted, is-accepted, not-accepted, first-refused, second-refused, fronts-differ, hidden-equal, forks}
+use Rattle.accepted.proofs.Laws.{run-accepted, is-accepted, not-accepted, first-refused, second-kept, second-lists, second-refused, fronts-differ, hidden-equal, forks}
 use borrow.Author.Needs.{needs}
 use Rattle.accepted.proofs.refusal.Statement.{statement}
 use Rattle.accepted.proofs.refusal.Tie as tie
@@ -54,7 +54,8 @@ same-length-2 c = search needs
 returns : tie.Need-returns
 returns c =
     let s = c .before .before .before .before .before .before .before .before .before .before .before .before .before .before in
-    (first-refused (keyAt s) (oneAt s) (twoAt s) (not-accepted _ (c .before .before .before .before .before .judge-run .ensures .0) (c .if1 .taken)), ((λ z. absurd (let w : ⊥ = omega (arith, z) in w)), ((λ z. absurd (let w : ⊥ = omega (arith, z) in w)), (c .before .before .before .before .before .judge-run .ensures .1 .1 .0, refl))))
+    let bad = not-accepted _ (c .before .before .before .before .before .judge-run .ensures .0) (c .if1 .taken) in
+    (first-refused (keyAt s) (oneAt s) (twoAt s) bad, ((λ z. absurd (let w : ⊥ = omega (arith, z) in w)), ((λ z. absurd (let w : ⊥ = omega (arith, z) in w)), (c .before .before .before .before .before .judge-run .ensures .1 .1 .0, second-kept (keyAt s) (oneAt s) (twoAt s) (s .args .lists2 .now) bad))))
 
 judge-run-requires-2 : tie.Need-judge-run-requires-2
 judge-run-requires-2 c κs =
@@ -73,7 +74,7 @@ same-length-5 c = search needs
 returns-2 : tie.Need-returns-2
 returns-2 c =
     let s = c .before .before .before .before .before .before .before .before .before .before .before .before .before .before .before .before .before .before .before .before .before .before in
-    (second-refused (keyAt s) (oneAt s) (twoAt s) (one-good (c .before .before .before .before .before .before .before .before)) (not-accepted _ (c .before .before .before .before .before .judge-run2 .ensures .0) (c .if2 .taken)), ((λ z. absurd (let w : ⊥ = omega (arith, z) in w)), ((λ z. absurd (let w : ⊥ = omega (arith, z) in w)), (c .before .before .before .before .before .before .before .before .before .before .before .before .before .judge-run .ensures .1 .1 .0, c .before .before .before .before .before .judge-run2 .ensures .1 .1 .0))))
+    (second-refused (keyAt s) (oneAt s) (twoAt s) (one-good (c .before .before .before .before .before .before .before .before)) (not-accepted _ (c .before .before .before .before .before .judge-run2 .ensures .0) (c .if2 .taken)), ((λ z. absurd (let w : ⊥ = omega (arith, z) in w)), ((λ z. absurd (let w : ⊥ = omega (arith, z) in w)), (c .before .before .before .before .before .before .before .before .before .before .before .before .before .judge-run .ensures .1 .1 .0, second-lists (keyAt s) (oneAt s) (twoAt s) (one-good (c .before .before .before .before .before .before .before .before)) (s .args .lists2 .now) (c .before .before .before .before .before .judge-run2 .ensures .1 .1 .0)))))
 
 same-front-requires : tie.Need-same-front-requires
 same-front-requires c κs = (c .before .before .before .before .before .before .before .before .before .before .before .before .before .before .before .before .before .before .before .before .before .before .pre .0, (one-headed (c .before .before .before .before .before .before .before .before), two-headed c))
@@ -91,7 +92,7 @@ returns-3 : tie.Need-returns-3
 returns-3 c =
     let s = c .before .before .before .before .before .before .before .before .before .before .before .before .before .before .before .before .before .before .before .before .before .before .before .before in (
       fronts-differ (keyAt s) (oneAt s) (twoAt s) (one-good (c .before .before .before .before .before .before .before .before .before .before)) (two-good (c .before .before)) (sym (c .before .same-front .ensures (keyAt s)) ∙ not-true _ (c .if3 .taken)),
-      ((λ z. absurd (let w : ⊥ = omega (arith, z) in w)), ((λ z. absurd (let w : ⊥ = omega (arith, z) in w)), (c .before .before .before .before .before .before .before .before .before .before .before .before .before .before .before .judge-run .ensures .1 .1 .0, c .before .before .before .before .before .before .before .judge-run2 .ensures .1 .1 .0))),
+      ((λ z. absurd (let w : ⊥ = omega (arith, z) in w)), ((λ z. absurd (let w : ⊥ = omega (arith, z) in w)), (c .before .before .before .before .before .before .before .before .before .before .before .before .before .before .before .judge-run .ensures .1 .1 .0, second-lists (keyAt s) (oneAt s) (twoAt s) (one-good (c .before .before .before .before .before .before .before .before .before .before)) (s .args .lists2 .now) (c .before .before .before .before .before .before .before .judge-run2 .ensures .1 .1 .0)))),
     )
 
 same-hidden-requires : tie.Need-same-hidden-requires
@@ -110,7 +111,7 @@ returns-4 : tie.Need-returns-4
 returns-4 c =
     let s = c .before .before .before .before .before .before .before .before .before .before .before .before .before .before .before .before .before .before .before .before .before .before .before .before .before .before in (
       hidden-equal (keyAt s) (oneAt s) (twoAt s) (one-good (c .before .before .before .before .before .before .before .before .before .before .before .before)) (two-good (c .before .before .before .before)) (sym (c .before .before .before .same-front .ensures (keyAt s)) ∙ not-false _ (c .before .before .if3 .left)) (sym (c .before .same-hidden .ensures) ∙ c .if4 .taken),
-      ((λ z. absurd (let w : ⊥ = omega (arith, z) in w)), ((λ z. absurd (let w : ⊥ = omega (arith, z) in w)), (c .before .before .before .before .before .before .before .before .before .before .before .before .before .before .before .before .before .judge-run .ensures .1 .1 .0, c .before .before .before .before .before .before .before .before .before .judge-run2 .ensures .1 .1 .0))),
+      ((λ z. absurd (let w : ⊥ = omega (arith, z) in w)), ((λ z. absurd (let w : ⊥ = omega (arith, z) in w)), (c .before .before .before .before .before .before .before .before .before .before .before .before .before .before .before .before .before .judge-run .ensures .1 .1 .0, second-lists (keyAt s) (oneAt s) (twoAt s) (one-good (c .before .before .before .before .before .before .before .before .before .before .before .before)) (s .args .lists2 .now) (c .before .before .before .before .before .before .before .before .before .judge-run2 .ensures .1 .1 .0)))),
     )
 
 same-length-12 : tie.Need-same-length-12
@@ -128,7 +129,7 @@ returns-5 c =
       forks (keyAt s) (oneAt s) (twoAt s) (one-good (c .before .before .before .before .before .before .before .before .before .before .before .before)) (two-good (c .before .before .before .before)) (sym (c .before .before .before .same-front .ensures (keyAt s)) ∙ not-false _ (c .before .before .if3 .left)) (sym (c .before .same-hidden .ensures) ∙ c .if4 .left),
       (
         (λ z. c .before .before .before .before .before .before .before .before .before .before .before .before .before .before .before .before .before .judge-run .ensures .1 .0 (c .before .before .before .before .before .before .before .before .before .before .before .before .if1 .left)),
-        ((λ z. c .before .before .before .before .before .before .before .before .before .judge-run2 .ensures .1 .0 (c .before .before .before .before .if2 .left)), (c .before .before .before .before .before .before .before .before .before .before .before .before .before .before .before .before .before .judge-run .ensures .1 .1 .0, c .before .before .before .before .before .before .before .before .before .judge-run2 .ensures .1 .1 .0)),
+        ((λ z. c .before .before .before .before .before .before .before .before .before .judge-run2 .ensures .1 .0 (c .before .before .before .before .if2 .left)), (c .before .before .before .before .before .before .before .before .before .before .before .before .before .before .before .before .before .judge-run .ensures .1 .1 .0, second-lists (keyAt s) (oneAt s) (twoAt s) (one-good (c .before .before .before .before .before .before .before .before .before .before .before .before)) (s .args .lists2 .now) (c .before .before .before .before .before .before .before .before .before .judge-run2 .ensures .1 .1 .0))),
       ),
     )
 

@@ -1,7 +1,7 @@
 -- `write_row` meets its contract. Assumes nothing.
 use mathlib.Core.Path.{sym}
 use lib.Seq.{length-take-le}
-use Rattle.answer.proofs.Laws.{row-collision, row-secret, row-square, row-errors}
+use Rattle.answer.proofs.Laws.{row-collision, row-secret, row-square, row-errors, narrow-of}
 use borrow.Author.Needs.{needs}
 use Rattle.answer.proofs.write_row.Statement.{statement}
 use Rattle.answer.proofs.write_row.Tie as tie
@@ -16,19 +16,19 @@ slice-relend-prefix-fill : tie.Need-slice-relend-prefix-fill
 slice-relend-prefix-fill c = search needs
 
 slice-aggregate-fill : tie.Need-slice-aggregate-fill
-slice-aggregate-fill c = sym (length-take-le 8 (c .before .before .before .before .before .args .answer .now) (c .before .before .before .before .before .pre))
+slice-aggregate-fill c = sym (length-take-le 8 (c .before .before .before .before .before .args .answer .now) (c .before .before .before .before .before .pre .0))
 
 word-requires : tie.Need-word-requires
-word-requires c κs = search needs
+word-requires c κs = narrow-of _ (c .before .before .r .given .1) (c .before .before .before .before .before .pre .1) .1 .0
 
 word-requires-2 : tie.Need-word-requires-2
-word-requires-2 c κs = search needs
+word-requires-2 c κs = narrow-of _ (c .before .before .before .r .given .1) (c .before .before .before .before .before .before .pre .1) .1 .1 .0
 
 word-requires-3 : tie.Need-word-requires-3
-word-requires-3 c κs = search needs
+word-requires-3 c κs = narrow-of _ (c .before .before .before .before .r .given .1) (c .before .before .before .before .before .before .before .pre .1) .1 .1 .1 .0
 
 fill-requires : tie.Need-fill-requires
-fill-requires c κs = length-take-le 8 (c .before .before .before .before .before .before .before .before .args .answer .now) (c .before .before .before .before .before .before .before .before .pre)
+fill-requires c κs = length-take-le 8 (c .before .before .before .before .before .before .before .before .args .answer .now) (c .before .before .before .before .before .before .before .before .pre .0)
 
 enum-told-2 : tie.Need-enum-told-2
 enum-told-2 c = search needs
@@ -37,10 +37,10 @@ slice-relend-prefix-fill-2 : tie.Need-slice-relend-prefix-fill-2
 slice-relend-prefix-fill-2 c = search needs
 
 slice-aggregate-fill-2 : tie.Need-slice-aggregate-fill-2
-slice-aggregate-fill-2 c = sym (length-take-le 8 (c .before .before .before .before .args .answer .now) (c .before .before .before .before .pre))
+slice-aggregate-fill-2 c = sym (length-take-le 8 (c .before .before .before .before .args .answer .now) (c .before .before .before .before .pre .0))
 
 fill-requires-2 : tie.Need-fill-requires-2
-fill-requires-2 c κs = length-take-le 8 (c .before .before .before .before .args .answer .now) (c .before .before .before .before .pre)
+fill-requires-2 c κs = length-take-le 8 (c .before .before .before .before .args .answer .now) (c .before .before .before .before .pre .0)
 
 enum-known-r-2 : tie.Need-enum-known-r-2
 enum-known-r-2 c = search needs
@@ -49,16 +49,16 @@ slice-relend-prefix-fill-3 : tie.Need-slice-relend-prefix-fill-3
 slice-relend-prefix-fill-3 c = search needs
 
 slice-aggregate-fill-3 : tie.Need-slice-aggregate-fill-3
-slice-aggregate-fill-3 c = sym (length-take-le 8 (c .before .before .before .before .before .args .answer .now) (c .before .before .before .before .before .pre))
+slice-aggregate-fill-3 c = sym (length-take-le 8 (c .before .before .before .before .before .args .answer .now) (c .before .before .before .before .before .pre .0))
 
 word-requires-4 : tie.Need-word-requires-4
-word-requires-4 c κs = search needs
+word-requires-4 c κs = narrow-of _ (c .before .before .r2 .given .1) (c .before .before .before .before .before .pre .1) .1 .0
 
 word-requires-5 : tie.Need-word-requires-5
-word-requires-5 c κs = search needs
+word-requires-5 c κs = narrow-of _ (c .before .before .before .r2 .given .1) (c .before .before .before .before .before .before .pre .1) .1 .1 .1 .1 .0
 
 fill-requires-3 : tie.Need-fill-requires-3
-fill-requires-3 c κs = length-take-le 8 (c .before .before .before .before .before .before .before .args .answer .now) (c .before .before .before .before .before .before .before .pre)
+fill-requires-3 c κs = length-take-le 8 (c .before .before .before .before .before .before .before .args .answer .now) (c .before .before .before .before .before .before .before .pre .0)
 
 enum-known-r-3 : tie.Need-enum-known-r-3
 enum-known-r-3 c = search needs
@@ -67,13 +67,13 @@ slice-relend-prefix-fill-4 : tie.Need-slice-relend-prefix-fill-4
 slice-relend-prefix-fill-4 c = search needs
 
 slice-aggregate-fill-4 : tie.Need-slice-aggregate-fill-4
-slice-aggregate-fill-4 c = sym (length-take-le 8 (c .before .before .before .before .before .args .answer .now) (c .before .before .before .before .before .pre))
+slice-aggregate-fill-4 c = sym (length-take-le 8 (c .before .before .before .before .before .args .answer .now) (c .before .before .before .before .before .pre .0))
 
 word-requires-6 : tie.Need-word-requires-6
-word-requires-6 c κs = search needs
+word-requires-6 c κs = narrow-of _ (c .before .before .r3 .given .1) (c .before .before .before .before .before .pre .1) .1 .0
 
 fill-requires-4 : tie.Need-fill-requires-4
-fill-requires-4 c κs = length-take-le 8 (c .before .before .before .before .before .before .args .answer .now) (c .before .before .before .before .before .before .pre)
+fill-requires-4 c κs = length-take-le 8 (c .before .before .before .before .before .before .args .answer .now) (c .before .before .before .before .before .before .pre .0)
 
 returns : tie.Need-returns
 returns c = search needs

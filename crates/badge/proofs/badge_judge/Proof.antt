@@ -1,7 +1,6 @@
 -- `badge_judge` meets its contract. Assumes nothing.
-use mathlib.Core.Path.{_∙_, ap}
-use Rattle.refusals.specs.Number.{numberOf}
-use Rattle.badge.proofs.Laws.{lent-is}
+use native.Mathlib.Omega.{arith}
+use Rattle.badge.proofs.Laws.{judged}
 use borrow.Author.Needs.{needs}
 use Rattle.badge.proofs.badge_judge.Statement.{statement}
 use Rattle.badge.proofs.badge_judge.Tie as tie
@@ -16,7 +15,7 @@ judge-requires : tie.Need-judge-requires
 judge-requires c κs = search needs
 
 returns : tie.Need-returns
-returns c = c .before .before .judge .ensures ∙ ap numberOf (lent-is (c .before .before .before .before .before .before .before .args .key .now) (c .before .before .before .before .before .before .before .args .run .now))
+returns c = judged (c .before .before .before .before .before .before .before .args .key .now) (c .before .before .before .before .before .before .before .args .run .now) _ _ (c .before .before .judge .ensures) (omega arith) (omega arith)
 
 pub badge-judge-spec : {M : Type 1} → statement M
 badge-judge-spec =

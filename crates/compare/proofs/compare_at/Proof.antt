@@ -29,8 +29,11 @@ part-same-bytes-end-2 c = search needs
 same-bytes-requires : tie.Need-same-bytes-requires
 same-bytes-requires c κs = search needs
 
+nothing-requires : tie.Need-nothing-requires
+nothing-requires c κs = search needs
+
 returns : tie.Need-returns
-returns c = mark-equal _ _ _ _ _ _ _ (sym (c .before .same-bytes .ensures) ∙ c .if1 .taken)
+returns c = mark-equal _ _ _ _ _ _ _ (c .before .before .before .before .before .before .before .pre .0) (sym (c .before .before .same-bytes .ensures) ∙ c .before .if1 .taken) (c .nothing .ensures)
 
 returns-2 : tie.Need-returns-2
 returns-2 c = mark-differ _ _ _ _ _ _ _ (c .before .before .before .before .before .before .pre .0) (sym (c .before .same-bytes .ensures) ∙ c .if1 .left)
@@ -47,5 +50,6 @@ compare-at-spec =
     part-same-bytes-start-2
     part-same-bytes-end-2
     same-bytes-requires
+    nothing-requires
     returns
     returns-2)

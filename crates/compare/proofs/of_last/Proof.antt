@@ -1,7 +1,7 @@
 -- `of_last` compares Ω where N is open in both. Assumes nothing.
 use mathlib.Core.Path.{sym, _∙_}
 use borrow.Author.Tests.{not-true, not-false}
-use Rattle.compare.proofs.Laws.{last-closed, last-open}
+use Rattle.compare.proofs.Laws.{spots-none, last-closed, last-open}
 use borrow.Author.Needs.{needs}
 use Rattle.compare.proofs.of_last.Statement.{statement}
 use Rattle.compare.proofs.of_last.Tie as tie
@@ -16,7 +16,7 @@ nothing-requires : tie.Need-nothing-requires
 nothing-requires c κs = search needs
 
 returns : tie.Need-returns
-returns c = λ l m. last-closed _ (c .before .before .before .before .before .pre .0) _ _ _ _ (c .before .before .before .before .before .pre .1 .0) l m (sym (c .before .before .open-in-both .ensures) ∙ not-true _ (c .before .if1 .taken)) (c .nothing .ensures l m _ _)
+returns c = λ l m. last-closed _ (c .before .before .before .before .before .pre .0) _ _ _ _ (c .before .before .before .before .before .pre .1 .0) l m (sym (c .before .before .open-in-both .ensures) ∙ not-true _ (c .before .if1 .taken)) (spots-none (c .nothing .ensures) l m _ _)
 
 mul-compare-at : tie.Need-mul-compare-at
 mul-compare-at c = search needs

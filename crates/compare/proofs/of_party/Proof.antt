@@ -1,7 +1,7 @@
 -- `of_party` compares Γ of a party that is open in both; that of party N is longer. Assumes nothing.
 use mathlib.Core.Path.{sym, _∙_}
 use borrow.Author.Tests.{not-true, not-false}
-use Rattle.compare.proofs.Laws.{party-closed, party-last, party-other}
+use Rattle.compare.proofs.Laws.{spots-none, party-closed, party-last, party-other}
 use borrow.Author.Needs.{needs}
 use Rattle.compare.proofs.of_party.Statement.{statement}
 use Rattle.compare.proofs.of_party.Tie as tie
@@ -13,7 +13,7 @@ nothing-requires : tie.Need-nothing-requires
 nothing-requires c κs = search needs
 
 returns : tie.Need-returns
-returns c = λ l m. party-closed _ (c .before .before .before .before .before .pre .0) _ _ _ _ (c .before .before .before .before .before .pre .1 .0) l m _ (sym (c .before .before .open-in-both .ensures) ∙ not-true _ (c .before .if1 .taken)) (c .nothing .ensures l m _ _)
+returns c = λ l m. party-closed _ (c .before .before .before .before .before .pre .0) _ _ _ _ (c .before .before .before .before .before .pre .1 .0) l m _ (sym (c .before .before .open-in-both .ensures) ∙ not-true _ (c .before .if1 .taken)) (spots-none (c .nothing .ensures) l m _ _)
 
 mul-from : tie.Need-mul-from
 mul-from c = search needs

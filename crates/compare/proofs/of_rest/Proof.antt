@@ -66,13 +66,13 @@ returns-3 : tie.Need-returns-3
 returns-3 c = rest-stop-3 _ (c .before .before .before .before .before .before .before .before .before .before .before .before .before .before .pre .0) _ _ _ _ (c .before .before .before .before .before .before .before .before .before .before .before .before .before .before .pre .1 .0) (c .before .before .before .before .before .before .before .before .before .before .before .before .before .before .pre .1 .1 .1 .0) (c .before .before .before .before .before .before .before .before .compare-at .ensures) (c .before .before .before .before .before .before .if1 .left) (c .before .before .before .before .before .compare-at2 .ensures) (c .before .before .before .if2 .left) (c .before .before .compare-at3 .ensures) (c .if3 .taken)
 
 mul-compare-at-8 : tie.Need-mul-compare-at-8
-mul-compare-at-8 c = search needs
+mul-compare-at-8 c = let p = c .before .before .before .before .before .before .before .before .before .before .before .before .before .before .pre .0 in omega (arith, p .m-most, p .N-most)
 
 mul-compare-at-9 : tie.Need-mul-compare-at-9
-mul-compare-at-9 c = search needs
+mul-compare-at-9 c = let p = c .before .before .before .before .before .before .before .before .before .before .before .before .before .before .pre .0 in omega (arith, p .m-most, p .N-most)
 
 add-compare-at-5 : tie.Need-add-compare-at-5
-add-compare-at-5 c = search needs
+add-compare-at-5 c = let p = c .before .before .before .before .before .before .before .before .before .before .before .before .before .before .pre .0 in omega (arith, p .m-most, p .N-most)
 
 add-compare-at-6 : tie.Need-add-compare-at-6
 add-compare-at-6 c = omega (arith, grid-most _ (c .before .before .before .before .before .before .before .before .before .before .before .before .before .before .pre .0), c .before .before .before .before .before .before .before .before .before .before .before .before .before .before .pre .0 .m-most, c .before .before .before .before .before .before .before .before .before .before .before .before .before .before .pre .0 .N-most, c .before .before .before .before .before .before .before .before .before .before .before .before .before .before .pre .0 .M-most, c .before .before .before .before .before .before .before .before .before .before .before .before .before .before .pre .1 .0, c .before .before .before .before .before .before .before .before .before .before .before .before .before .before .pre .1 .1 .0, c .before .before .before .before .before .before .before .before .before .before .before .before .before .before .pre .1 .1 .1 .0, c .before .before .before .before .before .before .before .before .before .before .before .before .before .before .pre .1 .1 .1 .1)
@@ -81,10 +81,10 @@ add-compare-at-7 : tie.Need-add-compare-at-7
 add-compare-at-7 c = omega (arith, grid-most _ (c .before .before .before .before .before .before .before .before .before .before .before .before .before .before .pre .0), c .before .before .before .before .before .before .before .before .before .before .before .before .before .before .pre .0 .m-most, c .before .before .before .before .before .before .before .before .before .before .before .before .before .before .pre .0 .N-most, c .before .before .before .before .before .before .before .before .before .before .before .before .before .before .pre .0 .M-most, c .before .before .before .before .before .before .before .before .before .before .before .before .before .before .pre .1 .0, c .before .before .before .before .before .before .before .before .before .before .before .before .before .before .pre .1 .1 .0, c .before .before .before .before .before .before .before .before .before .before .before .before .before .before .pre .1 .1 .1 .0, c .before .before .before .before .before .before .before .before .before .before .before .before .before .before .pre .1 .1 .1 .1)
 
 mul-compare-at-10 : tie.Need-mul-compare-at-10
-mul-compare-at-10 c = search needs
+mul-compare-at-10 c = let p = c .before .before .before .before .before .before .before .before .before .before .before .before .before .before .pre .0 in omega (arith, p .m-most, p .N-most)
 
 add-compare-at-8 : tie.Need-add-compare-at-8
-add-compare-at-8 c = search needs
+add-compare-at-8 c = let p = c .before .before .before .before .before .before .before .before .before .before .before .before .before .before .pre .0 in omega (arith, p .m-most, p .N-most)
 
 compare-at-requires-4 : tie.Need-compare-at-requires-4
 compare-at-requires-4 c κs = ((omega arith), ((omega (arith, grid-most _ (c .before .before .before .before .before .before .before .before .before .before .before .before .before .before .pre .0), c .before .before .before .before .before .before .before .before .before .before .before .before .before .before .pre .0 .m-most, c .before .before .before .before .before .before .before .before .before .before .before .before .before .before .pre .0 .N-most, c .before .before .before .before .before .before .before .before .before .before .before .before .before .before .pre .0 .M-most, c .before .before .before .before .before .before .before .before .before .before .before .before .before .before .pre .1 .0, c .before .before .before .before .before .before .before .before .before .before .before .before .before .before .pre .1 .1 .0, c .before .before .before .before .before .before .before .before .before .before .before .before .before .before .pre .1 .1 .1 .0, c .before .before .before .before .before .before .before .before .before .before .before .before .before .before .pre .1 .1 .1 .1)), (omega (arith, grid-most _ (c .before .before .before .before .before .before .before .before .before .before .before .before .before .before .pre .0), c .before .before .before .before .before .before .before .before .before .before .before .before .before .before .pre .0 .m-most, c .before .before .before .before .before .before .before .before .before .before .before .before .before .before .pre .0 .N-most, c .before .before .before .before .before .before .before .before .before .before .before .before .before .before .pre .0 .M-most, c .before .before .before .before .before .before .before .before .before .before .before .before .before .before .pre .1 .0, c .before .before .before .before .before .before .before .before .before .before .before .before .before .before .pre .1 .1 .0, c .before .before .before .before .before .before .before .before .before .before .before .before .before .before .pre .1 .1 .1 .0, c .before .before .before .before .before .before .before .before .before .before .before .before .before .before .pre .1 .1 .1 .1))))

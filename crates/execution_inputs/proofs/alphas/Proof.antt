@@ -53,7 +53,7 @@ part-alpha-bytes-end c = omega (arith, ends c)
 alpha-bytes-requires : tie.Need-alpha-bytes-requires Inv-loop μ-loop
 alpha-bytes-requires c κs =
     let p = c .before .before .before .before .before .before .before .pre in
-    (p .0, (p .1 .0, (c .before .loop-test .taken, (p .1 .1 .0, (p .1 .1 .1 .0, within _ _ _ (ends (c .before)))))))
+    (p .0, (p .1 .0, (omega (arith, c .before .loop-test .taken), (p .1 .1 .0, (p .1 .1 .1 .0, within _ _ _ (ends (c .before)))))))
 
 mul-sums : tie.Need-mul-sums Inv-loop μ-loop
 mul-sums c = search needs

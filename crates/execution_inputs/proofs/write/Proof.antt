@@ -9,7 +9,7 @@ use Rattle.execution.specs.Shown.{Shown}
 use Rattle.views.specs.Seen.{bounded}
 use Rattle.kept.proofs.Laws.{kept-shared}
 use Rattle.inputs.proofs.Laws.{within}
-use Rattle.execution_inputs.proofs.Laws.{written, rest-long}
+use Rattle.execution_inputs.proofs.Laws.{written, laid-out, rest-long}
 use borrow.Author.Needs.{needs}
 use Rattle.execution_inputs.proofs.write.Statement.{statement}
 use Rattle.execution_inputs.proofs.write.Tie as tie
@@ -89,7 +89,15 @@ returns c =
           written so S some (p .1 .1 .1 .1 .1 .1 .1 .1 .0) (p .1 .1 .1 .1 .1 .1 .1 .1 .1 .0) (omega (arith, p .1 .1 .1 .1 .0))
           (parts-joined (a .out .now) (n .last .1 .1 .1 .1 .1 .1 .1 .0) _ (64 * a .parties + 4 * a .m) (n .kept .1 .1 .1 .1 .1 .1 .1 .0 ∙ length-take-le (64 * a .parties + 4 * a .m) (a .out .now) (omega (arith, p .1 .1 .1 .1 .1 .1 .1 .1 .1 .1 .1 .1))) (n .ensures)
           (c .before .before .later-inputs .ensures K _ (kept-shared so S some))),
-      search needs,
+      (
+        search needs,
+        λ K P so.
+            let S : Shown K (keptView K P (a .execution)) (a .leaves .now) (a .work .now) = p .1 .1 .1 .1 .1 .1 .1 .1 .1 .1 .1 .0 .shown K P (a .execution) (so .sized) (so .deep) (so .hides) (so .at) in
+            let some : 1 ≤ a .parties = omega (arith, p .0 .N-least) in
+            laid-out so S some (p .1 .1 .1 .1 .1 .1 .1 .1 .0) (p .1 .1 .1 .1 .1 .1 .1 .1 .1 .0) (omega (arith, p .1 .1 .1 .1 .0))
+            (parts-joined (a .out .now) (n .last .1 .1 .1 .1 .1 .1 .1 .0) _ (64 * a .parties + 4 * a .m) (n .kept .1 .1 .1 .1 .1 .1 .1 .0 ∙ length-take-le (64 * a .parties + 4 * a .m) (a .out .now) (omega (arith, p .1 .1 .1 .1 .1 .1 .1 .1 .1 .1 .1 .1))) (n .ensures)
+            (c .before .before .later-inputs .ensures K _ (kept-shared so S some))),
+      ),
     )
 
 pub write-spec : {M : Type 1} → statement M

@@ -13,10 +13,10 @@ use Rattle.finding.proofs.find.Tie as tie
 
 -- the spot lies in the lists of both transcripts
 in-one : (c : tie.After-first-difference) → Inside (length (c .before .before .before .before .before .before .before .before .before .before .before .args .lists1 .now)) (length (c .before .before .before .before .before .before .before .before .before .before .before .args .inputs1 .now)) (c .first-difference .result)
-in-one c = inside-at _ (c .before .before .before .before .before .before .before .before .before .before .before .pre .1 .1 .0) (c .before .before .before .before .before .before .before .before .before .before .before .pre .1 .1 .1 .1 .0) (c .first-difference .ensures .1)
+in-one c = inside-at _ (c .before .before .before .before .before .before .before .before .before .before .before .pre .1 .1 .0) (c .before .before .before .before .before .before .before .before .before .before .before .pre .1 .1 .1 .1 .0) (c .first-difference .ensures .1 .0)
 
 in-two : (c : tie.After-first-difference) → Inside (length (c .before .before .before .before .before .before .before .before .before .before .before .args .lists2 .now)) (length (c .before .before .before .before .before .before .before .before .before .before .before .args .inputs2 .now)) (c .first-difference .result)
-in-two c = inside-at _ (c .before .before .before .before .before .before .before .before .before .before .before .pre .1 .1 .1 .0) (c .before .before .before .before .before .before .before .before .before .before .before .pre .1 .1 .1 .1 .1 .0) (c .first-difference .ensures .1)
+in-two c = inside-at _ (c .before .before .before .before .before .before .before .before .before .before .before .pre .1 .1 .1 .0) (c .before .before .before .before .before .before .before .before .before .before .before .pre .1 .1 .1 .1 .1 .0) (c .first-difference .ensures .1 .0)
 
 first-difference-requires : tie.Need-first-difference-requires
 first-difference-requires c κs =
@@ -44,31 +44,31 @@ returns c =
     reads-values K P R (s .args .e) (s .args .hash1 .now) (s .args .hash2 .now) (z .none (c .before .before .before .before .before .before .before .if1 .taken) (values K P R (s .args .e))) (r .0) (r .1) (r .2)
 
 slice-relend-prefix-show : tie.Need-slice-relend-prefix-show
-slice-relend-prefix-show c = omega (arith, c .before .before .first-difference .ensures .1 .short, c .before .before .before .before .before .before .before .before .before .before .before .before .before .pre .1 .1 .1 .1 .1 .1 .1 .1 .0)
+slice-relend-prefix-show c = omega (arith, c .before .before .first-difference .ensures .1 .0 .short, c .before .before .before .before .before .before .before .before .before .before .before .before .before .pre .1 .1 .1 .1 .1 .1 .1 .1 .0)
 
 slice-aggregate-show : tie.Need-slice-aggregate-show
-slice-aggregate-show c = sym (length-take-le (c .before .before .before .first-difference .result .length) (c .before .before .before .before .before .before .before .before .before .before .before .before .before .before .args .hash1 .now) (omega (arith, c .before .before .before .first-difference .ensures .1 .short, c .before .before .before .before .before .before .before .before .before .before .before .before .before .before .pre .1 .1 .1 .1 .1 .1 .1 .1 .0)))
+slice-aggregate-show c = sym (length-take-le (c .before .before .before .first-difference .result .length) (c .before .before .before .before .before .before .before .before .before .before .before .before .before .before .args .hash1 .now) (omega (arith, c .before .before .before .first-difference .ensures .1 .0 .short, c .before .before .before .before .before .before .before .before .before .before .before .before .before .before .pre .1 .1 .1 .1 .1 .1 .1 .1 .0)))
 
 show-requires : tie.Need-show-requires
 show-requires c κs =
     let s = c .before .before .before .before .before .before .before .before .before .before .before .before .before .before in
     let p = s .pre in (
       (omega (arith, p .1 .1 .0, p .0 .M-most), omega (arith, p .1 .1 .1 .1 .0, size-most (s .args .k .m) (s .args .k .parties) (p .0 .m-most) (p .0 .N-most))),
-      (in-one (c .before .before .before), length-take-le (c .before .before .before .first-difference .result .length) (s .args .hash1 .now) (omega (arith, c .before .before .before .first-difference .ensures .1 .short, p .1 .1 .1 .1 .1 .1 .1 .1 .0))),
+      (in-one (c .before .before .before), length-take-le (c .before .before .before .first-difference .result .length) (s .args .hash1 .now) (omega (arith, c .before .before .before .first-difference .ensures .1 .0 .short, p .1 .1 .1 .1 .1 .1 .1 .1 .0))),
     )
 
 slice-relend-prefix-show-2 : tie.Need-slice-relend-prefix-show-2
-slice-relend-prefix-show-2 c = omega (arith, c .before .before .before .before .before .before .first-difference .ensures .1 .short, c .before .before .before .before .before .before .before .before .before .before .before .before .before .before .before .before .before .pre .1 .1 .1 .1 .1 .1 .1 .1 .1 .0)
+slice-relend-prefix-show-2 c = omega (arith, c .before .before .before .before .before .before .first-difference .ensures .1 .0 .short, c .before .before .before .before .before .before .before .before .before .before .before .before .before .before .before .before .before .pre .1 .1 .1 .1 .1 .1 .1 .1 .1 .0)
 
 slice-aggregate-show-2 : tie.Need-slice-aggregate-show-2
-slice-aggregate-show-2 c = sym (length-take-le (c .before .before .before .before .before .before .before .first-difference .result .length) (c .before .before .before .before .before .before .before .before .before .before .before .before .before .before .before .before .before .before .args .hash2 .now) (omega (arith, c .before .before .before .before .before .before .before .first-difference .ensures .1 .short, c .before .before .before .before .before .before .before .before .before .before .before .before .before .before .before .before .before .before .pre .1 .1 .1 .1 .1 .1 .1 .1 .1 .0)))
+slice-aggregate-show-2 c = sym (length-take-le (c .before .before .before .before .before .before .before .first-difference .result .length) (c .before .before .before .before .before .before .before .before .before .before .before .before .before .before .before .before .before .before .args .hash2 .now) (omega (arith, c .before .before .before .before .before .before .before .first-difference .ensures .1 .0 .short, c .before .before .before .before .before .before .before .before .before .before .before .before .before .before .before .before .before .before .pre .1 .1 .1 .1 .1 .1 .1 .1 .1 .0)))
 
 show-requires-2 : tie.Need-show-requires-2
 show-requires-2 c κs =
     let s = c .before .before .before .before .before .before .before .before .before .before .before .before .before .before .before .before .before .before in
     let p = s .pre in (
-      (omega (arith, p .1 .1 .1 .0, p .0 .M-most), omega (arith, p .1 .1 .1 .1 .1 .0, size-most (s .args .k .m) (s .args .k .parties) (p .0 .m-most) (p .0 .N-most))),
-      (in-two (c .before .before .before .before .before .before .before), length-take-le (c .before .before .before .before .before .before .before .first-difference .result .length) (s .args .hash2 .now) (omega (arith, c .before .before .before .before .before .before .before .first-difference .ensures .1 .short, p .1 .1 .1 .1 .1 .1 .1 .1 .1 .0))),
+      (omega (arith, p .1 .1 .0, p .1 .1 .1 .0, p .0 .M-most), omega (arith, p .1 .1 .1 .1 .0, p .1 .1 .1 .1 .1 .0, size-most (s .args .k .m) (s .args .k .parties) (p .0 .m-most) (p .0 .N-most))),
+      (in-two (c .before .before .before .before .before .before .before), length-take-le (c .before .before .before .before .before .before .before .first-difference .result .length) (s .args .hash2 .now) (omega (arith, c .before .before .before .before .before .before .before .first-difference .ensures .1 .0 .short, p .1 .1 .1 .1 .1 .1 .1 .1 .1 .0))),
     )
 
 add-t27 : tie.Need-add-t27

@@ -7,12 +7,11 @@ use Rattle.gf.specs.Field.{product, remainder, gmul}
 use Rattle.gf.proofs.xtime.Statement.{statement}
 use Rattle.gf.proofs.xtime.Tie as tie
 
-mul-result : tie.Need-mul-result
-mul-result c = search needs
-
 returns : tie.Need-returns
 unfolding product remainder gmul
-returns c = same (λ a. bitXor (a * 2 % 256) (27 * (a / 128))) (gmul 2) 256 tt (c .args .a) (search needs)
+returns c =
+    same (λ a. bitXor (a * 2 % 256) (bitXor (bitXor (a / 128) (a / 128 * 2 % 256)) (bitXor (a / 128) (a / 128 * 2 % 256) * 8 % 256))) (gmul 2) 256 tt
+    (c .args .a) (search needs)
 
 pub xtime-spec : {M : Type 1} → statement M
-xtime-spec = tie.close (tie.spec mul-result returns)
+xtime-spec = tie.close (tie.spec returns)

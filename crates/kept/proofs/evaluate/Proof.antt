@@ -6,8 +6,9 @@ use lib.ListN.{replicate}
 use lib.Seq.{length-take-le}
 use Rattle.protocol.specs.Judge.{keptView}
 use Rattle.execution.specs.Shown.{Shown}
+use Rattle.views.specs.Seen.{bounded}
 use borrow.Author.Needs.{needs}
-use Rattle.kept.proofs.Laws.{evaluates, kept-for-h, kept-for-Ω, kept-shared}
+use Rattle.kept.proofs.Laws.{evaluates, kept-for-h, kept-shared}
 use Rattle.kept.proofs.evaluate.Statement.{statement}
 use Rattle.kept.proofs.evaluate.Tie as tie
 
@@ -29,8 +30,10 @@ part-h-of-end c = search needs
 h-of-requires : tie.Need-h-of-requires
 h-of-requires c κs = search needs
 
-omega-of-requires : tie.Need-omega-of-requires
-omega-of-requires c κs = search needs
+omega-at-requires : tie.Need-omega-at-requires
+omega-at-requires c κs =
+    let p = c .before .before .before .before .before .before .before .before .pre in
+    (bounded (p .0) (p .1 .1 .1 .0), (p .1 .1 .1 .1 .1 .1 .1 .1 .0, p .1 .1 .1 .1 .1 .1 .1 .1 .1 .0))
 
 sub-answer : tie.Need-sub-answer
 sub-answer c = search needs
@@ -62,7 +65,7 @@ returns c =
     λ K P so.
     let S : Shown K (keptView K P (a .execution)) (a .leaves .now) (a .work .now) = p .1 .1 .1 .1 .1 .1 .1 .1 .1 .1 .1 .shown K P (a .execution) (so .sized) (so .deep) (so .hides) (so .at) in
     let some : 1 ≤ a .parties = omega (arith, p .0 .N-least) in
-    evaluates so S some (c .before .before .before .before .before .before .before .before .before .h-of .ensures K _ (kept-for-h so S some)) (λ other. c .before .before .before .before .before .before .before .before .omega-of .ensures K _ (kept-for-Ω so S some other))
+    evaluates so S some (c .before .before .before .before .before .before .before .before .before .h-of .ensures K _ (kept-for-h so S some)) (c .before .before .before .before .before .before .before .before .omega-at .ensures .0) (λ other v. c .before .before .before .before .before .before .before .before .omega-at .ensures .1 other K v)
     (c .before .before .before .before .answer .ensures K _ (kept-shared so S some))
 
 pub evaluate-spec : {M : Type 1} → statement M
@@ -75,7 +78,7 @@ evaluate-spec =
     part-h-of-start
     part-h-of-end
     h-of-requires
-    omega-of-requires
+    omega-at-requires
     sub-answer
     part-answer-start
     part-answer-end

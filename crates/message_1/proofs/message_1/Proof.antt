@@ -1,11 +1,14 @@
--- `message_1` refuses in order, or writes the digest from the place on. Assumes nothing.
+-- `message_1` refuses in order, or puts the digest from the place on. Assumes nothing.
 use native.Mathlib.Omega.{arith}
-use Rattle.protocol.proofs.Sizes.{message1-length}
-use Rattle.prover.proofs.Laws.{refuses, writes, accepted1, passed1, seeds-long, end-within}
-use mathlib.Core.Path.{_∙_}
+use lib.ListN.{length, length-take, length-drop}
+use Rattle.prover.proofs.Laws.{refuses, writes, put-whole, Ready1, ready1}
 use borrow.Author.Needs.{needs}
 use Rattle.message_1.proofs.message_1.Statement.{statement}
 use Rattle.message_1.proofs.message_1.Tie as tie
+
+-- what is known once no number applies
+ready : (c : tie.Else1) → let a = c .before .before .before .before .before .before .before .args in Ready1 (a .key .now) (a .seeds .now) (a .out .now) (a .place) (length (a .work .now)) (length (a .entries .now))
+ready c = ready1 _ _ (c .before .before .before .before .before .before .before .args .out .now) _ _ _ (c .before .refusal-1 .ensures) (c .if1 .left)
 
 refusal-1-requires : tie.Need-refusal-1-requires
 refusal-1-requires c κs = search needs
@@ -14,33 +17,22 @@ returns : tie.Need-returns
 returns c = refuses _ _ _ _ (c .before .refusal-1 .ensures) (c .if1 .taken)
 
 digest-requires : tie.Need-digest-requires
-digest-requires c κs =
-    let p = passed1 _ _ _ _ _ _ (accepted1 _ _ _ _ _ _ (c .before .before .refusal-1 .ensures) (c .before .if1 .left)) in
-    (p .of-key, (seeds-long _ _ (p .inputs), p .room .shares))
+digest-requires c κs = let r = ready (c .before) in (r .of-key, (r .seeds-long, r .shares))
 
-add-end : tie.Need-add-end
-add-end c =
-    let e = c .before .before .before .before in
-    let p = passed1 _ _ _ _ _ _ (accepted1 _ _ _ _ _ _ (e .before .refusal-1 .ensures) (e .if1 .left)) in
-    omega (arith, end-within (p .room) (message1-length _ _))
+slice-aggregate-put : tie.Need-slice-aggregate-put
+slice-aggregate-put c = search needs
 
-slice-aggregate-copy : tie.Need-slice-aggregate-copy
-slice-aggregate-copy c = search needs
+sub-put : tie.Need-sub-put
+sub-put c = omega (arith, ready (c .before .before .before .before .before) .ends)
 
-sub-copy : tie.Need-sub-copy
-sub-copy c = search needs
+part-put-start : tie.Need-part-put-start
+part-put-start c = sub-put c
 
-part-copy-start : tie.Need-part-copy-start
-part-copy-start c = search needs
+part-put-end : tie.Need-part-put-end
+part-put-end c = search needs
 
-part-copy-end : tie.Need-part-copy-end
-part-copy-end c =
-    let e = c .before .before .before .before .before in
-    let p = passed1 _ _ _ _ _ _ (accepted1 _ _ _ _ _ _ (e .before .refusal-1 .ensures) (e .if1 .left)) in
-    omega (arith, end-within (p .room) (message1-length _ _))
-
-copy-requires : tie.Need-copy-requires
-copy-requires c κs = search needs
+put-requires : tie.Need-put-requires
+put-requires c κs = let r = ready (c .before .before .before .before .before .before) in (omega arith, simp (length-take, length-drop) (omega (arith, r .ends)))
 
 same-length : tie.Need-same-length
 same-length c = search needs
@@ -50,9 +42,9 @@ same-length-2 c = search needs
 
 returns-2 : tie.Need-returns-2
 returns-2 c =
-    let e = c .before .before .before .before .before .before .before .before .before in
-    let d = c .before .before .before .before .before .before .before in
-    writes _ _ _ _ _ _ (accepted1 _ _ _ _ _ _ (e .before .refusal-1 .ensures) (e .if1 .left)) (c .before .before .copy .ensures ∙ d .digest .ensures) (message1-length _ _)
+    let r = ready (c .before .before .before .before .before .before .before .before .before) in
+    let d = c .before .before .before .before .before .before .before .digest .ensures in
+    writes _ _ _ _ _ _ (r .passes) (r .long) (put-whole _ _ _ _ _ (r .long) d (c .before .before .put .ensures))
 
 pub message-1-spec : {M : Type 1} → statement M
 message-1-spec =
@@ -61,12 +53,11 @@ message-1-spec =
     refusal-1-requires
     returns
     digest-requires
-    add-end
-    slice-aggregate-copy
-    sub-copy
-    part-copy-start
-    part-copy-end
-    copy-requires
+    slice-aggregate-put
+    sub-put
+    part-put-start
+    part-put-end
+    put-requires
     same-length
     same-length-2
     returns-2)

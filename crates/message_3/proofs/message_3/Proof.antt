@@ -1,14 +1,15 @@
--- `message_3` refuses in order, or writes the message from the place on. Assumes nothing.
-use mathlib.Core.Path.{_≡_}
-use Prim.Native.Nat.{_+_, _-_}
-use Rattle.lists.specs.CatLaws.{part-length}
-use Rattle.prover.proofs.Laws.{ready3}
-use mathlib.Core.Path.{_∙_}
+-- `message_3` refuses in order, or lends the output from the place on to the writer. Assumes nothing.
+use mathlib.Core.Path.{sym}
 use native.Mathlib.Omega.{arith}
-use Rattle.prover.proofs.Laws.{refuses, writes, accepted3, passed3}
+use lib.ListN.{length}
+use Rattle.prover.proofs.Laws.{refuses, writes, Ready3, ready3}
 use borrow.Author.Needs.{needs}
 use Rattle.message_3.proofs.message_3.Statement.{statement}
 use Rattle.message_3.proofs.message_3.Tie as tie
+
+-- what is known once no number applies
+ready : (c : tie.Else1) → let a = c .before .before .before .before .before .before .before .before .before .before .args in Ready3 (a .key .now) (a .seeds .now) (a .secret .now) (a .e .now) (a .kappa .now) (a .out .now) (a .place) (length (a .work .now)) (length (a .entries .now))
+ready c = ready3 _ _ _ _ _ (c .before .before .before .before .before .before .before .before .before .before .args .out .now) _ _ _ (c .before .refusal-3 .ensures) (c .if1 .left)
 
 refusal-3-requires : tie.Need-refusal-3-requires
 refusal-3-requires c κs = search needs
@@ -16,31 +17,17 @@ refusal-3-requires c κs = search needs
 returns : tie.Need-returns
 returns c = refuses _ _ _ _ (c .before .refusal-3 .ensures) (c .if1 .taken)
 
-numbers-of-requires : tie.Need-numbers-of-requires
-numbers-of-requires c κs = passed3 _ _ _ _ _ _ _ _ _ (accepted3 _ _ _ _ _ _ _ _ _ (c .before .refusal-3 .ensures) (c .if1 .left)) .of-key
-
-size-3-requires : tie.Need-size-3-requires
-size-3-requires c κs = search needs
-
-add-end : tie.Need-add-end
-add-end c = let r = ready3 _ _ _ _ _ _ _ _ _ (c .before .before .before .refusal-3 .ensures) (c .before .before .if1 .left) (c .before .numbers-of .ensures .of .τ-is) (c .before .numbers-of .ensures .of .M-is) (c .size-3 .ensures .0) in omega (arith, r .ends)
-
 sub-write : tie.Need-sub-write
-sub-write c = search needs
+sub-write c = omega (arith, ready (c .before) .place)
 
 part-write-start : tie.Need-part-write-start
-part-write-start c = search needs
+part-write-start c = sub-write c
 
 part-write-end : tie.Need-part-write-end
-part-write-end c = let r = ready3 _ _ _ _ _ _ _ _ _ (c .before .before .before .before .refusal-3 .ensures) (c .before .before .before .if1 .left) (c .before .before .numbers-of .ensures .of .τ-is) (c .before .before .numbers-of .ensures .of .M-is) (c .before .size-3 .ensures .0) in omega (arith, r .ends)
+part-write-end c = search needs
 
 write-requires : tie.Need-write-requires
-write-requires c κs =
-    let r = ready3 _ _ _ _ _ _ _ _ _ (c .before .before .before .before .before .refusal-3 .ensures) (c .before .before .before .before .if1 .left) (c .before .before .before .numbers-of .ensures .of .τ-is) (c .before .before .before .numbers-of .ensures .of .M-is) (c .before .before .size-3 .ensures .0) in
-    let a = c .before .before .before .before .before .before .before .before .before .before .before .before .before .before .args in
-    let n = c .before .before .size-3 .result in
-    let z : a .place + n - a .place ≡ n = omega arith in
-    (r .of-key, (r .inputs, (r .shares, rw z (part-length (a .out .now) (a .place) n (r .ends)) ∙ r .is)))
+write-requires c κs = let r = ready (c .before .before) in (r .of-key, (r .inputs, (r .shares, r .room)))
 
 same-length : tie.Need-same-length
 same-length c = search needs
@@ -50,8 +37,8 @@ same-length-2 c = search needs
 
 returns-2 : tie.Need-returns-2
 returns-2 c =
-    let r = ready3 _ _ _ _ _ _ _ _ _ (c .before .before .before .before .before .before .before .before .before .before .refusal-3 .ensures) (c .before .before .before .before .before .before .before .before .before .if1 .left) (c .before .before .before .before .before .before .before .before .numbers-of .ensures .of .τ-is) (c .before .before .before .before .before .before .before .before .numbers-of .ensures .of .M-is) (c .before .before .before .before .before .before .before .size-3 .ensures .0) in
-    writes _ _ _ _ _ _ (r .passes) (c .before .before .before .before .write .ensures) (r .long)
+    let w = c .before .before .before .before .write .ensures in
+    writes _ _ _ _ _ _ (ready (c .before .before .before .before .before .before .before) .passes) (sym (w .0)) (w .1)
 
 pub message-3-spec : {M : Type 1} → statement M
 message-3-spec =
@@ -59,9 +46,6 @@ message-3-spec =
     (tie.spec
     refusal-3-requires
     returns
-    numbers-of-requires
-    size-3-requires
-    add-end
     sub-write
     part-write-start
     part-write-end

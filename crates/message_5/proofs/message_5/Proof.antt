@@ -1,10 +1,14 @@
--- `message_5` refuses in order, or writes the digest from the place on. Assumes nothing.
-use mathlib.Core.Path.{_∙_}
+-- `message_5` refuses in order, or puts the digest from the place on. Assumes nothing.
 use native.Mathlib.Omega.{arith}
-use Rattle.prover.proofs.Laws.{refuses, writes, ready5}
+use lib.ListN.{length, length-take, length-drop}
+use Rattle.prover.proofs.Laws.{refuses, writes, put-whole, Ready5, ready5}
 use borrow.Author.Needs.{needs}
 use Rattle.message_5.proofs.message_5.Statement.{statement}
 use Rattle.message_5.proofs.message_5.Tie as tie
+
+-- what is known once no number applies
+ready : (c : tie.Else1) → let a = c .before .before .before .before .before .before .before .before .before .before .before .args in Ready5 (a .key .now) (a .seeds .now) (a .secret .now) (a .e .now) (a .kappa .now) (a .seed .now) (a .out .now) (a .place) (length (a .work .now)) (length (a .entries .now))
+ready c = ready5 _ _ _ _ _ _ (c .before .before .before .before .before .before .before .before .before .before .before .args .out .now) _ _ _ (c .before .refusal-5 .ensures) (c .if1 .left)
 
 refusal-5-requires : tie.Need-refusal-5-requires
 refusal-5-requires c κs = search needs
@@ -13,27 +17,22 @@ returns : tie.Need-returns
 returns c = refuses _ _ _ _ (c .before .refusal-5 .ensures) (c .if1 .taken)
 
 digest-requires : tie.Need-digest-requires
-digest-requires c κs =
-    let r = ready5 _ _ _ _ _ _ _ _ _ _ (c .before .before .before .refusal-5 .ensures) (c .before .before .if1 .left) in
-    (r .of-key, (r .inputs, (r .seed-long, (r .shares, r .rows))))
+digest-requires c κs = let r = ready (c .before .before) in (r .of-key, (r .inputs, (r .seed-long, (r .shares, r .rows))))
 
-add-end : tie.Need-add-end
-add-end c = let r = ready5 _ _ _ _ _ _ _ _ _ _ (c .before .before .before .before .before .before .before .before .refusal-5 .ensures) (c .before .before .before .before .before .before .before .if1 .left) in omega (arith, r .ends, c .before .before .before .before .before .before .before .before .before .before .before .before .before .before .before .before .before .before .good .1 .1 .1 .1 .1 .1 .0)
+slice-aggregate-put : tie.Need-slice-aggregate-put
+slice-aggregate-put c = search needs
 
-slice-aggregate-copy : tie.Need-slice-aggregate-copy
-slice-aggregate-copy c = search needs
+sub-put : tie.Need-sub-put
+sub-put c = omega (arith, ready (c .before .before .before .before .before .before .before .before) .ends)
 
-sub-copy : tie.Need-sub-copy
-sub-copy c = search needs
+part-put-start : tie.Need-part-put-start
+part-put-start c = sub-put c
 
-part-copy-start : tie.Need-part-copy-start
-part-copy-start c = search needs
+part-put-end : tie.Need-part-put-end
+part-put-end c = search needs
 
-part-copy-end : tie.Need-part-copy-end
-part-copy-end c = let r = ready5 _ _ _ _ _ _ _ _ _ _ (c .before .before .before .before .before .before .before .before .before .refusal-5 .ensures) (c .before .before .before .before .before .before .before .before .if1 .left) in omega (arith, r .ends)
-
-copy-requires : tie.Need-copy-requires
-copy-requires c κs = search needs
+put-requires : tie.Need-put-requires
+put-requires c κs = let r = ready (c .before .before .before .before .before .before .before .before .before) in (omega arith, simp (length-take, length-drop) (omega (arith, r .ends)))
 
 same-length : tie.Need-same-length
 same-length c = search needs
@@ -46,8 +45,9 @@ same-length-3 c = search needs
 
 returns-2 : tie.Need-returns-2
 returns-2 c =
-    let r = ready5 _ _ _ _ _ _ _ _ _ _ (c .before .before .before .before .before .before .before .before .before .before .before .before .before .refusal-5 .ensures) (c .before .before .before .before .before .before .before .before .before .before .before .before .if1 .left) in
-    writes _ _ _ _ _ _ (r .passes) (c .before .before .copy .ensures ∙ c .before .before .before .before .before .before .before .before .before .digest .ensures) (r .long)
+    let r = ready (c .before .before .before .before .before .before .before .before .before .before .before .before) in
+    let d = c .before .before .before .before .before .before .before .before .before .digest .ensures in
+    writes _ _ _ _ _ _ (r .passes) (r .long) (put-whole _ _ _ _ _ (r .long) d (c .before .before .put .ensures))
 
 pub message-5-spec : {M : Type 1} → statement M
 message-5-spec =
@@ -56,12 +56,11 @@ message-5-spec =
     refusal-5-requires
     returns
     digest-requires
-    add-end
-    slice-aggregate-copy
-    sub-copy
-    part-copy-start
-    part-copy-end
-    copy-requires
+    slice-aggregate-put
+    sub-put
+    part-put-start
+    part-put-end
+    put-requires
     same-length
     same-length-2
     same-length-3

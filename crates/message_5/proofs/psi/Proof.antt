@@ -14,7 +14,7 @@ dealt-outputs-requires : tie.Need-dealt-outputs-requires
 dealt-outputs-requires c κs =
     let p = c .before .before .before .before .before .before .before .before .before .before .before .before .before .before .before .before .before .pre in
     let d = c .before .before .before .before .before .before .deal .ensures in
-    (p .0, (p .1 .0, (p .1 .1 .0, (p .1 .1 .1 .1 .0, (p .1 .1 .1 .1 .1 .1 .1 .1 .0, (p .1 .1 .1 .1 .1 .1 .1 .1 .1 .0, (omega (arith, d .1 .1 .1, p .1 .1 .1 .1 .1 .1 .1 .1 .1 .1 .1 .0), (d .1 .0, p .1 .1 .1 .1 .1 .1 .1 .1 .1 .1 .1 .1))))))))
+    (p .0, (p .1 .0, (p .1 .1 .0, (p .1 .1 .1 .1 .0, (omega (arith, p .1 .1 .1 .1 .1 .1 .1 .0, p .1 .1 .1 .1 .1 .1 .1 .1 .0), (p .1 .1 .1 .1 .1 .1 .1 .1 .1 .0, (omega (arith, d .1 .1 .1, p .1 .1 .1 .1 .1 .1 .1 .1 .1 .1 .1 .0), (d .1 .0, p .1 .1 .1 .1 .1 .1 .1 .1 .1 .1 .1 .1))))))))
 
 psi-of-requires : tie.Need-psi-of-requires
 psi-of-requires c κs =

@@ -1,21 +1,15 @@
--- `message_7` meets its contract. Assumes nothing.
-use mathlib.Core.Path.{_≡_, sym, _∙_}
-use Prim.Native.Nat.{_+_, _-_}
+-- `message_7` refuses in order, or lends the output from the place on to the writer. Assumes nothing.
+use mathlib.Core.Path.{sym}
 use native.Mathlib.Omega.{arith}
 use lib.ListN.{length}
-use Rattle.lists.specs.CatLaws.{part-length}
-use Rattle.prover.proofs.Laws.{refuses, writes, accepted7, passed7, Ready7, ready7}
+use Rattle.prover.proofs.Laws.{refuses, writes, Ready7, ready7}
 use borrow.Author.Needs.{needs}
 use Rattle.message_7.proofs.message_7.Statement.{statement}
 use Rattle.message_7.proofs.message_7.Tie as tie
 
 -- what is known once no number applies
-ready : (c : tie.After-replies-length)
-    → Ready7 (c .before .before .before .before .before .before .before .before .before .before .before .before .before .before .args .key .now) (c .before .before .before .before .before .before .before .before .before .before .before .before .before .before .args .seeds .now) (c .before .before .before .before .before .before .before .before .before .before .before .before .before .before .args .secret .now) (c .before .before .before .before .before .before .before .before .before .before .before .before .before .before .args .e .now) (c .before .before .before .before .before .before .before .before .before .before .before .before .before .before .args .kappa .now) (c .before .before .before .before .before .before .before .before .before .before .before .before .before .before .args .seed .now) (c .before .before .before .before .before .before .before .before .before .before .before .before .before .before .args .hidden .now) (length (c .before .before .before .before .before .before .before .before .before .before .before .before .before .before .args .out .now)) (c .before .before .before .before .before .before .before .before .before .before .before .before .before .before .args .place) (length (c .before .before .before .before .before .before .before .before .before .before .before .before .before .before .args .work .now)) (length (c .before .before .before .before .before .before .before .before .before .before .before .before .before .before .args .entries .now)) (c .replies-length .result)
-ready c =
-    let a = c .before .before .before .before .before .before .before .before .before .before .before .before .before .before .args in
-    ready7 (a .key .now) (a .seeds .now) (a .secret .now) (a .e .now) (a .kappa .now) (a .seed .now) (a .hidden .now) (length (a .out .now)) (a .place) (length (a .work .now)) (length (a .entries .now))
-    (c .before .before .before .refusal-7 .ensures) (c .before .before .if1 .left) (c .before .numbers-of .ensures .of) (c .replies-length .ensures)
+ready : (c : tie.Else1) → let a = c .before .before .before .before .before .before .before .before .before .before .before .before .args in Ready7 (a .key .now) (a .seeds .now) (a .secret .now) (a .e .now) (a .kappa .now) (a .seed .now) (a .hidden .now) (a .out .now) (a .place) (length (a .work .now)) (length (a .entries .now))
+ready c = ready7 _ _ _ _ _ _ _ (c .before .before .before .before .before .before .before .before .before .before .before .before .args .out .now) _ _ _ (c .before .refusal-7 .ensures) (c .if1 .left)
 
 refusal-7-requires : tie.Need-refusal-7-requires
 refusal-7-requires c κs = search needs
@@ -23,31 +17,17 @@ refusal-7-requires c κs = search needs
 returns : tie.Need-returns
 returns c = refuses _ _ _ _ (c .before .refusal-7 .ensures) (c .if1 .taken)
 
-numbers-of-requires : tie.Need-numbers-of-requires
-numbers-of-requires c κs = passed7 _ _ _ _ _ _ _ _ _ _ _ (accepted7 _ _ _ _ _ _ _ _ _ _ _ (c .before .refusal-7 .ensures) (c .if1 .left)) .of-key
-
-replies-length-requires : tie.Need-replies-length-requires
-replies-length-requires c κs = search needs
-
-add-end : tie.Need-add-end
-add-end c = let r = ready c in omega (arith, r .ends, c .before .before .before .before .before .before .before .before .before .before .before .before .before .before .good)
-
 sub-write : tie.Need-sub-write
-sub-write c = search needs
+sub-write c = omega (arith, ready (c .before .before) .place)
 
 part-write-start : tie.Need-part-write-start
-part-write-start c = search needs
+part-write-start c = sub-write c
 
 part-write-end : tie.Need-part-write-end
-part-write-end c = let r = ready (c .before .before) in omega (arith, r .ends)
+part-write-end c = search needs
 
 write-requires : tie.Need-write-requires
-write-requires c κs =
-    let r = ready (c .before .before .before) in
-    let a = c .before .before .before .before .before .before .before .before .before .before .before .before .before .before .before .before .before .args in
-    let n = c .before .before .before .replies-length .result in
-    let z : a .place + n - a .place ≡ n = omega arith in
-    (r .of-key, (r .inputs, (r .seed-long, (r .hides, (r .rows, (r .shares, r .long ∙ sym (rw z (part-length (a .out .now) (a .place) n (r .ends)))))))))
+write-requires c κs = let r = ready (c .before .before .before) in (r .of-key, (r .inputs, (r .seed-long, (r .hides, (r .rows, (r .shares, r .room))))))
 
 same-length : tie.Need-same-length
 same-length c = search needs
@@ -60,8 +40,8 @@ same-length-3 c = search needs
 
 returns-2 : tie.Need-returns-2
 returns-2 c =
-    let r = ready (c .before .before .before .before .before .before .before .before .before .before) in
-    writes _ _ _ _ _ _ (r .passes) (c .before .before .before .before .before .before .write .ensures) (r .long)
+    let w = c .before .before .before .before .before .before .write .ensures in
+    writes _ _ _ _ _ _ (ready (c .before .before .before .before .before .before .before .before .before .before) .passes) (sym (w .0)) (w .1)
 
 pub message-7-spec : {M : Type 1} → statement M
 message-7-spec =
@@ -69,9 +49,6 @@ message-7-spec =
     (tie.spec
     refusal-7-requires
     returns
-    numbers-of-requires
-    replies-length-requires
-    add-end
     sub-write
     part-write-start
     part-write-end

@@ -30,7 +30,7 @@ returns : tie.Need-returns
 returns c =
     let made = c .before .before .before .before .before .before .before .before .before .before .reopen-kept .ensures in
     let out = c .before .before .write .ensures in
-    (λ K P h. sided (made .0) h (out .0 K P h), (made .1 .1 .0, (out .1, made .1 .1 .1)))
+    (λ K P h. sided (made .0) h (out .0 K P h), (made .1 .1 .0, (out .1 .0, made .1 .1 .1)))
 
 pub fill-side-spec : {M : Type 1} → statement M
 fill-side-spec =

@@ -1,12 +1,13 @@
 -- `read` meets its contract. Assumes nothing.
 use mathlib.Core.Path.{sym, _∙_, ap}
 use lib.ListN.{length}
-use Rattle.reading.specs.Answers.{answerOf, hash1Of, hash2Of, bitsOf, errorsOf}
+use Rattle.protocol.specs.Pair.{says}
+use Rattle.reading.specs.Answers.{hash1Of, hash2Of, bitsOf, errorsOf}
 use Rattle.answer.specs.Codes.{findingCode}
 use Rattle.answer.specs.Rows.{rowAfter}
 use Rattle.answer.proofs.Codes.{code-both}
 use Rattle.pair.specs.Lent.{lengths}
-use Rattle.badge.proofs.Readings.{call-short, call-long}
+use Rattle.badge.proofs.Readings.{call-short, call-long, narrow-reading}
 use borrow.Author.Needs.{needs}
 use Rattle.badge.proofs.pairs.read.Statement.{statement}
 use Rattle.badge.proofs.pairs.read.Tie as tie
@@ -21,12 +22,12 @@ returns : tie.Need-returns
 returns c =
     let a = c .before .before .before .before .before .before .before .before .before .before .before .before .before .args in
     let e = call-short (length (a .answer .now)) (a .key .now) (lengths (length (a .hash1 .now)) (length (a .hash2 .now)) (length (a .secret .now)) (length (a .uv .now)) (length (a .entries .now)) (length (a .work .now))) (a .run1 .now) (a .run2 .now) (c .before .before .if1 .taken) (c .before .short-answer .ensures) in (
-      code-both (c .refusal-code .ensures) (sym (ap (λ x. findingCode (answerOf x)) e)),
+      code-both (c .refusal-code .ensures) (sym (ap (λ x. findingCode (says x)) e)),
       (
         sym (ap (λ x. hash1Of x (a .hash1 .now)) e),
         (
           sym (ap (λ x. hash2Of x (a .hash2 .now)) e),
-          (sym (ap (λ x. bitsOf x (a .secret .now)) e), (sym (ap (λ x. errorsOf x (a .uv .now)) e), sym (ap (λ x. rowAfter (answerOf x) (a .answer .now)) e))),
+          (sym (ap (λ x. bitsOf x (a .secret .now)) e), (sym (ap (λ x. errorsOf x (a .uv .now)) e), sym (ap (λ x. rowAfter (says x) (a .answer .now)) e))),
         ),
       ),
     )
@@ -35,7 +36,11 @@ pair-requires : tie.Need-pair-requires
 pair-requires c κs = search needs
 
 write-row-requires : tie.Need-write-row-requires
-write-row-requires c κs = search needs
+write-row-requires c κs =
+    let a = c .before .before .before .before .before .before .before .before .before .before .before .before .before .before .before .before .before .before .before .before .before .before .before .before .before .before .before .before .before .before .before .args in (
+      c .before .before .before .before .before .before .before .before .before .before .before .before .before .before .before .before .before .before .before .before .if1 .left,
+      narrow-reading (a .key .now) (lengths (length (a .hash1 .now)) (length (a .hash2 .now)) (length (a .secret .now)) (length (a .uv .now)) (length (a .entries .now)) (length (a .work .now))) (a .run1 .now) (a .run2 .now) (c .before .before .before .before .before .before .before .before .before .before .before .before .before .pair .ensures .answer),
+    )
 
 finding-code-requires : tie.Need-finding-code-requires
 finding-code-requires c κs = search needs
@@ -66,7 +71,7 @@ returns-2 c =
     let a = c .before .before .before .before .before .before .before .before .before .before .before .before .before .before .before .before .before .before .before .before .before .before .before .before .before .before .before .before .before .before .before .before .before .before .before .args in
     let e = call-long (length (a .answer .now)) (a .key .now) (lengths (length (a .hash1 .now)) (length (a .hash2 .now)) (length (a .secret .now)) (length (a .uv .now)) (length (a .entries .now)) (length (a .work .now))) (a .run1 .now) (a .run2 .now) (c .before .before .before .before .before .before .before .before .before .before .before .before .before .before .before .before .before .before .before .before .before .before .before .before .if1 .left) in
     let r = c .before .before .before .before .before .before .before .before .before .before .before .before .before .before .before .before .before .pair .ensures in
-    let is = r .answer ∙ ap answerOf e in (
+    let is = r .answer ∙ ap says e in (
       code-both (c .finding-code .ensures) (ap findingCode is),
       (
         r .hash1 ∙ ap (λ x. hash1Of x (a .hash1 .now)) e,

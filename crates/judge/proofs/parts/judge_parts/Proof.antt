@@ -9,7 +9,7 @@ use Rattle.protocol.specs.Judge.{formChecks}
 use Rattle.refusals.specs.Number.{numberOf}
 use Rattle.key.specs.Numbers.{keyWith, of-with}
 use Rattle.walk.specs.Walk.{partsFrom, Standing, Walked}
-use Rattle.judge.proofs.Laws.{form-clean, form-refused, walk-refused, hash-verdict, within-of, stands-of, stood-of}
+use Rattle.judge.proofs.Laws.{form-clean, form-refused, form-kept, walk-refused, walk-lists, hash-verdict, within-of, stands-of, stood-of}
 use borrow.Author.Needs.{needs}
 use Rattle.judge.proofs.parts.judge_parts.Statement.{statement}
 use Rattle.judge.proofs.parts.judge_parts.Tie as tie
@@ -37,7 +37,7 @@ stands c =
     let a = c .before .before .before .before .before .before .before .before .before .before .before .before .before .args in
     stands-of (a .k) (c .depth .result) (a .entries .now) (a .p1 .now) (a .p2 .now) (a .p3 .now) (a .p4 .now) (a .p5 .now) (a .p6 .now) (a .p7 .now) (c .depth .ensures) (good (c .before))
 
-walked : (c : tie.After-walk) → Walked (keyAt (c .before .before .before .before .before .before .before .before .before .before .before .before .before .before .before .before)) (partsAt (c .before .before .before .before .before .before .before .before .before .before .before .before .before .before .before .before)) (c .walk .result) (c .walk .last .1 .1 .1 .1 .1 .1 .1 .1 .1 .1 .1 .1 .1 .0)
+walked : (c : tie.After-walk) → Walked (keyAt (c .before .before .before .before .before .before .before .before .before .before .before .before .before .before .before .before)) (partsAt (c .before .before .before .before .before .before .before .before .before .before .before .before .before .before .before .before)) (c .walk .result) (c .before .before .before .before .before .before .before .before .before .before .before .before .before .before .before .before .args .lists .now) (c .walk .last .1 .1 .1 .1 .1 .1 .1 .1 .1 .1 .1 .1 .1 .0)
 walked c = let s = c .before .before .before .before .before .before .before .before .before .before .before .before .before .before .before .before in c .walk .ensures .0 (keyAt s) (partsAt s) (stands (c .before .before .before))
 
 check-parts-requires : tie.Need-check-parts-requires
@@ -46,7 +46,7 @@ check-parts-requires c κs = search needs
 returns : tie.Need-returns
 returns c =
     let s = c .before .before .before .before .before .before .before .before .before .before .before .before in
-    (form-refused (keyAt s) (partsAt s) (form (c .before)) (c .if1 .taken), ((λ z. absurd (c .if1 .taken z)), (refl, refl)))
+    (form-refused (keyAt s) (partsAt s) (form (c .before)) (c .if1 .taken), ((λ z. absurd (c .if1 .taken z)), (form-kept (keyAt s) (partsAt s) (s .args .lists .now) (form (c .before)) (c .if1 .taken), refl)))
 
 depth-requires : tie.Need-depth-requires
 depth-requires c κs = search needs
@@ -66,7 +66,7 @@ returns-2 : tie.Need-returns-2
 returns-2 c =
     let s = c .before .before .before .before .before .before .before .before .before .before .before .before .before .before .before .before .before .before .before .before .before in (
       walk-refused (keyAt s) (partsAt s) (good (c .before .before .before .before .before .before .before .before .before)) (walked (c .before .before .before .before .before)) (c .if2 .taken),
-      ((λ z. absurd (c .if2 .taken z)), (c .before .before .before .before .before .walk .ensures .1, search needs)),
+      ((λ z. absurd (c .if2 .taken z)), (walk-lists (keyAt s) (partsAt s) (good (c .before .before .before .before .before .before .before .before .before)) (walked (c .before .before .before .before .before)), search needs)),
     )
 
 sub-kept : tie.Need-sub-kept
@@ -109,7 +109,7 @@ returns-3 c =
     let s = c .before .before .before .before .before .before .before .before .before .before .before .before .before .before .before .before .before .before .before .before .before .before .before .before in (
       hash-verdict (keyAt s) (partsAt s) (good (c .before .before .before .before .before .before .before .before .before .before .before .before)) (walked (c .before .before .before .before .before .before .before .before)) (16 * s .args .k .opened + 32 * (s .args .k .executions - s .args .k .opened)) refl
           (c .before .before .before .if2 .left) (c .list-code .ensures),
-      ((λ z. walked (c .before .before .before .before .before .before .before .before) .listed (c .before .before .before .if2 .left)), (c .before .before .before .before .before .before .before .before .walk .ensures .1, search needs)),
+      ((λ z. walked (c .before .before .before .before .before .before .before .before) .listed (c .before .before .before .if2 .left)), (walk-lists (keyAt s) (partsAt s) (good (c .before .before .before .before .before .before .before .before .before .before .before .before)) (walked (c .before .before .before .before .before .before .before .before)), search needs)),
     )
 
 pub judge-parts-spec : {M : Type 1} → statement M

@@ -9,7 +9,7 @@ use Rattle.protocol.specs.Transcript.{Parts, goodHeader}
 use Rattle.key.specs.Numbers.{keyWith, of-with}
 use Rattle.transcript.specs.Layout.{startOf}
 use Rattle.walk.specs.Lists.{Listed}
-use Rattle.judge.proofs.Runs.{header-bad, header-good, parts-are, slice-in, slice-long, last-in, third-size, fourth-size}
+use Rattle.judge.proofs.Runs.{header-bad, header-kept, header-good, header-lists, parts-are, slice-in, slice-long, last-in, third-size, fourth-size}
 use borrow.Author.Needs.{needs}
 use Rattle.judge.proofs.run.judge_run.Statement.{statement}
 use Rattle.judge.proofs.run.judge_run.Tie as tie
@@ -63,7 +63,11 @@ good-header-requires : tie.Need-good-header-requires
 good-header-requires c κs = search needs
 
 returns : tie.Need-returns
-returns c = (header-bad (keyWith (c .before .before .before .before .before .before .args .k) (c .before .before .before .before .before .before .args .entries .now)) (c .before .before .before .before .before .before .args .run .now) (sym (c .before .good-header .ensures (keyWith (c .before .before .before .before .before .before .args .k) (c .before .before .before .before .before .before .args .entries .now)) (of-with (c .before .before .before .before .before .before .args .k) (c .before .before .before .before .before .before .args .entries .now))) ∙ not-true _ (c .if1 .taken)), ((λ z. absurd (let w : ⊥ = omega (arith, z) in w)), (refl, refl)))
+returns c =
+    let s = c .before .before .before .before .before .before in
+    let K = keyWith (s .args .k) (s .args .entries .now) in
+    let bad = sym (c .before .good-header .ensures K (of-with (s .args .k) (s .args .entries .now))) ∙ not-true _ (c .if1 .taken) in
+    (header-bad K (s .args .run .now) bad, ((λ z. absurd (let w : ⊥ = omega (arith, z) in w)), (header-kept K (s .args .run .now) (s .args .lists .now) bad, refl)))
 
 part-start-requires : tie.Need-part-start-requires
 part-start-requires c κs = search needs
@@ -175,7 +179,7 @@ returns-2 c =
     let j = c .before .before .before .before .judge-parts .ensures in
     let fine = good (c .before .before .before .before .before .before .before .before .before .before .before .before .before .before .before .before .before .before .before .before .before) in
     let are = parts-are K x fine (e0 (c .before .before .before .before .before .before .before .before .before .before .before .before .before .before)) (e1 (c .before .before .before .before .before .before .before .before .before .before .before .before .before .before)) (e2 (c .before .before .before .before .before .before .before .before .before .before .before .before .before .before)) (e3 (c .before .before .before .before .before .before .before .before .before .before .before .before .before .before)) (e4 (c .before .before .before .before .before .before .before .before .before .before .before .before .before .before)) (e5 (c .before .before .before .before .before .before .before .before .before .before .before .before .before .before)) (e6 (c .before .before .before .before .before .before .before .before .before .before .before .before .before .before)) in
-    (header-good K x fine are (j .0), ((λ z. subst (λ (P : Parts). Listed K P (c .before .before .before .before .judge-parts .last .1 .1 .1 .1 .1 .1 .1 .1 .1 .0)) are (j .1 .0 z)), (j .1 .1 .0, j .1 .1 .1)))
+    (header-good K x fine are (j .0), ((λ z. subst (λ (P : Parts). Listed K P (c .before .before .before .before .judge-parts .last .1 .1 .1 .1 .1 .1 .1 .1 .1 .0)) are (j .1 .0 z)), (header-lists K x fine (s .args .lists .now) are (j .1 .1 .0), j .1 .1 .1)))
 
 pub judge-run-spec : {M : Type 1} → statement M
 judge-run-spec =

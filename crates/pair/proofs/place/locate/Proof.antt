@@ -114,7 +114,7 @@ part-hidden-of-start-4 : tie.Need-part-hidden-of-start-4
 part-hidden-of-start-4 c = omega (arith, in-r6 (c .before .before .before .before .before .before .before .before) .0, in-r6 (c .before .before .before .before .before .before .before .before) .1)
 
 part-hidden-of-end-4 : tie.Need-part-hidden-of-end-4
-part-hidden-of-end-4 c = omega (arith, in-r6 (c .before .before .before .before .before .before .before .before) .0, in-r6 (c .before .before .before .before .before .before .before .before) .1)
+part-hidden-of-end-4 c = omega (arith, in-r6 (c .before .before .before .before .before .before .before .before) .1, in-p6 (c .before .before .before .before .before .before .before .before) .1)
 
 hidden-of-requires-2 : tie.Need-hidden-of-requires-2
 hidden-of-requires-2 c κs = omega (arith, c .before .before .before .before .before .execution-of .ensures .1, c .before .before .before .before .before .before .before .before .before .before .before .before .before .before .before .pre .0 .M-most)

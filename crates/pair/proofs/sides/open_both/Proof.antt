@@ -31,7 +31,7 @@ join-party-requires c κs =
     let p = c .before .before .before .before .before .before .before .before .before .before .before .before .before .before .before .before .before .before .before .before .before .before .before .before .before .before .before .before .pre in (
       limits-of _ (p .0),
       (
-        p .1 .0 .below,
+        omega (arith, p .1 .0 .below, p .1 .1 .0 .below),
         (
           omega (arith, p .1 .1 .1 .1 .1 .1 .1 .1, c .before .before .before .before .before .before .before .before .before .before .before .before .before .before .before .before .before .before .open-side .ensures .1 .1, c .before .before .before .before .before .before .open-side2 .ensures .1 .1),
           ap length (c .before .before .before .before .before .before .before .before .before .before .before .join-open .ensures) ∙ tab-length _ _,

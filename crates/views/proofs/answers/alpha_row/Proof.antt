@@ -1,27 +1,35 @@
--- `answers::alpha_row` meets its contract. Invariant: the first i entries are those of the parties below i. Assumes nothing.
-use mathlib.Core.Path.{_≡_, refl}
+-- `answers::alpha_row` meets its contract. Invariant: the first i entries are those of the parties below i, the others are 0. Assumes nothing.
+use mathlib.Core.Path.{_≡_, refl, _∙_, ap₂}
+use mathlib.Core.List.{_++_}
 use Prim.Native.Nat.{_≤_, _-_}
 use native.Mathlib.Omega.{arith}
-use Rattle.lists.specs.Tab.{Filling, start, more}
+use lib.ListN.{drop}
+use Rattle.lists.specs.Tab.{tab}
 use Rattle.execution.specs.Lists.{alphaAt}
-use Rattle.views.proofs.Laws.{front}
+use Rattle.views.proofs.Laws.{stored, row-done}
 use borrow.Author.Needs.{needs}
 use Rattle.views.proofs.answers.alpha_row.Statement.{statement}
 use Rattle.views.proofs.answers.alpha_row.Tie as tie
 
 abbrev Inv-loop : tie.InvT-loop
-Inv-loop q m parties hidden k given work row₀ i₀ row i = (i ≤ parties) × Filling 32 row i (alphaAt q m hidden given work k)
+Inv-loop q m parties hidden k given work row₀ i₀ row i =
+    (i ≤ parties) × (row ≡ tab i (alphaAt q m hidden given work k) ++ drop i row₀)
 
 abbrev μ-loop : tie.MeasureT-loop
 μ-loop q m parties hidden k given work row₀ i₀ row i = parties - i
 
 loop-holds : tie.Need-loop-holds Inv-loop μ-loop
-loop-holds c = (search needs, start _ _ refl)
+unfolding tab
+loop-holds c = (search needs, refl)
+
+entry-at-requires : tie.Need-entry-at-requires Inv-loop μ-loop
+entry-at-requires c κs = search needs
 
 alpha-requires : tie.Need-alpha-requires Inv-loop μ-loop
 alpha-requires c κs =
-    let p = c .before .before .before .before .pre in
-    (p .0, (p .1 .0, ((p .1 .1 .0, c .loop-test .taken), (p .1 .1 .1 .0, p .1 .1 .1 .1))))
+    let p = c .before .before .before .before .before .pre in
+    let e = c .entry-at .ensures in
+    (p .0, (p .1 .0, ((omega (arith, e .0, p .1 .1 .0), omega (arith, e .1, c .before .loop-test .taken)), (p .1 .1 .1 .0, p .1 .1 .1 .1))))
 
 mul-row : tie.Need-mul-row Inv-loop μ-loop
 mul-row c = search needs
@@ -36,12 +44,16 @@ loop-less : tie.Need-loop-less Inv-loop μ-loop
 loop-less c = search needs
 
 loop-again : tie.Need-loop-again Inv-loop μ-loop
-loop-again c = (search needs, more (c .before .before .loop .inv .1) (search needs) (c .alpha .ensures))
+loop-again c =
+    let l = c .before .before .before .loop in
+    let a = c .before .before .before .before .before .before .args in
+    let e = c .before .entry-at .ensures in
+    (search needs, stored _ _ _ _ _ (search needs) (l .inv .1) (c .alpha .ensures ∙ ap₂ (alphaAt (a .q) (a .m) (a .hidden) (a .given .now) (a .work .now)) (e .0) (e .1)))
 
 returns : tie.Need-returns Inv-loop μ-loop
 returns c =
     let e : c .before .loop .i ≡ c .before .before .before .before .args .parties = omega arith in
-    rw e at (front (c .before .loop .inv .1))
+    row-done _ _ (rw e at (c .before .loop .inv .1))
 
 pub alpha-row-spec : {M : Type 1} → statement M
 alpha-row-spec =
@@ -50,6 +62,7 @@ alpha-row-spec =
     Inv-loop
     μ-loop
     loop-holds
+    entry-at-requires
     alpha-requires
     mul-row
     array-write-row

@@ -12,7 +12,7 @@ use Rattle.numbers.specs.Sum.{sum}
 use Rattle.sha_core.specs.Fips180.{sha256}
 use Rattle.sha.specs.State.{Fed, fed-nil}
 use Rattle.execution.specs.Lists.{alphaAt}
-use Rattle.views.proofs.Laws.{sum-tab, stored, fed-next, fed-last, pi-is, sums-is}
+use Rattle.views.proofs.Laws.{front, sum-front, stored, fed-next, fed-last, pi-is, sums-is}
 use borrow.Author.Needs.{needs}
 use Rattle.views.proofs.answers.pi_of.Statement.{statement}
 use Rattle.views.proofs.answers.pi_of.Tie as tie
@@ -29,7 +29,7 @@ abbrev μ-loop : tie.MeasureT-loop
 row-long : (c : tie.After-alpha-row Inv-loop μ-loop)
     → length (take (c .before .before .before .before .before .before .before .before .args .parties) (c .alpha-row .result))
     ≡ c .before .before .before .before .before .before .before .before .args .parties
-row-long c = ap length (c .alpha-row .ensures) ∙ tab-length _ _
+row-long c = ap length (front _ _ (c .alpha-row .ensures)) ∙ tab-length _ _
 
 -- a turn's place in the list of sums
 room : (c : tie.In-loop Inv-loop μ-loop)
@@ -64,16 +64,11 @@ slice-aggregate-numbers c = sym (row-long (c .before))
 numbers-requires : tie.Need-numbers-requires Inv-loop μ-loop
 numbers-requires c κs = search needs
 
-array-share-prefix-row-2 : tie.Need-array-share-prefix-row-2 Inv-loop μ-loop
-array-share-prefix-row-2 c = search needs
-
 slice-aggregate-total : tie.Need-slice-aggregate-total Inv-loop μ-loop
-slice-aggregate-total c = sym (row-long (c .before .before .before))
+slice-aggregate-total c = search needs
 
 total-requires : tie.Need-total-requires Inv-loop μ-loop
-total-requires c κs =
-    let start = c .before .before .before .before .before .before .before .before .before .before .before in
-    rw (row-long (c .before .before .before)) (start .pre .0 .N-most)
+total-requires c κs = search needs
 
 reduced-requires : tie.Need-reduced-requires Inv-loop μ-loop
 reduced-requires c κs = search needs
@@ -96,9 +91,9 @@ loop-again c =
     let row = c .before .before .before .before .before .alpha-row .ensures in
     let a = c .before .before .before .before .before .before .before .before .before .before .before .before .before .args in (
       search needs,
-      fed-next _ _ (l .inv .1) (c .before .before .before .numbers .ensures) (ap words row ∙ words-tab _ _),
+      fed-next _ _ (l .inv .1) (c .before .before .before .numbers .ensures) (ap words (front _ _ row) ∙ words-tab _ _),
       stored _ _ _ _ _ (room (c .before .before .before .before .before .before) .1) (l .inv .2)
-          (c .reduced .ensures .is ∙ ap (λ x. x % a .q) (c .before .total .ensures ∙ sum-tab _ _ _ row)),
+          (c .reduced .ensures .is ∙ ap (λ x. x % a .q) (c .before .total .ensures ∙ sum-front _ _ row)),
       simp length-set (l .inv .3),
     )
 
@@ -143,7 +138,6 @@ pi-of-spec =
     array-share-prefix-row
     slice-aggregate-numbers
     numbers-requires
-    array-share-prefix-row-2
     slice-aggregate-total
     total-requires
     reduced-requires

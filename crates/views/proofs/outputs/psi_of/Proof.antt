@@ -1,5 +1,11 @@
 -- `outputs::psi_of` meets its contract. Assumes nothing.
+use Prim.Native.Nat.{ℕ, _+_}
+use mathlib.Core.Path.{_∙_, ap}
+use mathlib.Core.List.{List, _++_}
+use Rattle.lists.specs.Bytes.{words}
+use Rattle.sha_core.specs.Fips180.{sha256}
 use Rattle.sha.specs.State.{fed-join}
+use Rattle.protocol.specs.Shares.{input}
 use borrow.Author.Needs.{needs}
 use Rattle.views.proofs.outputs.psi_of.Statement.{statement}
 use Rattle.views.proofs.outputs.psi_of.Tie as tie
@@ -33,10 +39,11 @@ finish-requires c κs = search needs
 
 returns : tie.Need-returns
 returns c =
-    rw (← c .before .before .before .block-of .ensures)
-    (c .finish .ensures _
+    let a = c .before .before .before .before .before .before .before .before .args in
+    c .finish .ensures _
     (c .before .before .before .before .before .begin .ensures .stands _ _
-    (fed-join (c .before .before .before .before .numbers .ensures) (c .before .update .ensures))))
+    (fed-join (c .before .before .before .before .numbers .ensures) (c .before .update .ensures)))
+    ∙ ap (λ (x : List ℕ). sha256 (input 8 (a .execution + 1) 0 (words (a .outs .now) ++ x))) (c .before .before .before .block-of .ensures)
 
 pub psi-of-spec : {M : Type 1} → statement M
 psi-of-spec =

@@ -1,4 +1,5 @@
 -- `store` meets its contract. Assumes nothing.
+use mathlib.Core.Path.{refl}
 use native.Mathlib.Omega.{arith}
 use Rattle.walk.proofs.Stores.{stored-opened, stored-kept}
 use borrow.Author.Needs.{needs}
@@ -85,7 +86,7 @@ returns-2 c =
     let p = c .before .before .before .before .before .before .before .before .before .before .before .before .before .before .before .before .before .pre in
     let a = c .before .before .before .before .before .before .before .before .before .before .before .before .before .before .before .before .before .args in
     let left = c .before .before .before .before .before .before .before .before .if1 .left in
-    stored-kept (a .h .now) (a .pi .now) (a .psi .now) (a .lists .now) left (p .1 .0) (p .1 .1 .1 .0 left) (p .1 .1 .1 .1 .0) (p .1 .1 .1 .1 .1 .0) (p .1 .1 .1 .1 .1 .1 .0) (p .1 .1 .1 .1 .1 .1 .1) (c .before .before .before .before .before .before .before .before .before .before .before .copy .ensures) (c .before .before .before .before .before .before .copy2 .ensures) (c .before .before .copy3 .ensures)
+    stored-kept (a .h .now) (a .pi .now) (a .psi .now) (a .lists .now) left (p .1 .0) (p .1 .1 .1 .0 left) (p .1 .1 .1 .1 .0) (p .1 .1 .1 .1 .1 .0) (p .1 .1 .1 .1 .1 .1 .0) (p .1 .1 .1 .1 .1 .1 .1) (c .before .before .before .before .before .before .before .before .before .before .before .copy .ensures) (c .before .before .before .before .before .before .copy2 .ensures) (c .before .before .copy3 .ensures) _ refl
 
 pub store-spec : {M : Type 1} → statement M
 store-spec =

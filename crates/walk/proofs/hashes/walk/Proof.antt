@@ -16,7 +16,7 @@ use Rattle.walk.proofs.hashes.walk.Tie as tie
 abbrev Inv-loop : tie.InvT-loop
 Inv-loop q n m parties executions openings depth entries p2 p3 p4 p6 p7 lists₀ work₀ kept rank₀ at₀ e₀ lists work rank at e =
     (e ≤ executions)
-    × ((K : Key) (P : Parts) → Standing q n m parties executions openings depth entries p2 p3 p4 p6 p7 K P → Going K P executions (executions - openings) e rank at lists)
+    × ((K : Key) (P : Parts) → Standing q n m parties executions openings depth entries p2 p3 p4 p6 p7 K P → Going K P executions (executions - openings) e rank at lists₀ lists)
     × (length lists ≡ length lists₀)
     × (length work ≡ length work₀)
 
@@ -45,6 +45,12 @@ round-requires c κs =
     let inv = c .before .before .loop .inv in
     (p .0, (p .1 .0, ((λ K P so. inv .1 K P so .reached), (c .before .loop-test .taken, (p .1 .1 .0, (p .1 .1 .1 .0, (p .1 .1 .1 .1 .0, omega (arith, inv .3, p .1 .1 .1 .1 .1 .1))))))))
 
+is-opened-requires : tie.Need-is-opened-requires Inv-loop μ-loop
+is-opened-requires c κs = omega (arith, c .before .before .before .before .before .before .before .loop-test .taken, c .before .before .before .before .before .before .before .before .before .before .before .before .before .before .before .before .before .pre .0 .M-most)
+
+counted-requires : tie.Need-counted-requires Inv-loop μ-loop
+counted-requires c κs = search needs
+
 same-length : tie.Need-same-length Inv-loop μ-loop
 same-length c = search needs
 
@@ -53,12 +59,9 @@ same-length-2 c = search needs
 
 returns : tie.Need-returns Inv-loop μ-loop
 returns c = (
-  (λ K P so. walk-stops K P (c .before .before .before .before .before .before .before .before .before .before .loop .inv .1 K P so) (c .before .before .before .before .before .before .before .round .ensures .0 K P so) (omega (arith, so .executions, c .before .before .before .before .before .before .before .before .before .loop-test .taken)) (c .if1 .taken)),
-  c .before .before .before .before .before .before .before .before .before .before .loop .inv .2,
+  (λ K P so. walk-stops K P (c .before .before .before .before .before .before .before .before .before .before .before .loop .inv .1 K P so) (c .before .before .before .before .before .before .before .before .round .ensures .0 K P so) (c .before .before .is-opened .ensures ∙ ap (λ x. opened x (c .before .before .before .before .before .before .before .before .before .before .before .loop .e)) (sym (so .second))) (c .before .counted .ensures) (omega (arith, so .executions, c .before .before .before .before .before .before .before .before .before .before .loop-test .taken)) (c .if1 .taken)),
+  c .before .before .before .before .before .before .before .before .before .before .before .loop .inv .2,
 )
-
-is-opened-requires : tie.Need-is-opened-requires Inv-loop μ-loop
-is-opened-requires c κs = omega (arith, c .before .before .before .before .before .before .before .before .before .loop-test .taken, c .before .before .before .before .before .before .before .before .before .before .before .before .before .before .before .before .before .before .before .pre .0 .M-most)
 
 sub-store : tie.Need-sub-store Inv-loop μ-loop
 sub-store c =
@@ -80,19 +83,10 @@ store-requires c κs =
     let s = p .1 .0 in
     let here = c .before .before .before .before .before .before .before .before .before .before .before .before .before .before .before .loop .inv .1 (s .key) (s .parts) (s .so) .reached in
     let below = c .before .before .before .before .before .before .before .before .before .before .before .before .before .before .loop-test .taken in
-    let opens = c .before .before .before .before .is-opened .ensures in (
-      (p .0 .M-most, omega (arith, p .0 .M-most)),
-      (
-        below,
-        (
-          place-most (s .so) here below .1,
-          (
-            (λ t. place-below (s .so) here below (sym opens ∙ t)),
-            (long-h (c .before .before .before .before .before .before .before .before .before .before .before .before), (long-pi (c .before .before .before .before .before .before .before .before .before .before .before .before), (long-psi (c .before .before .before .before .before .before .before .before .before .before .before .before), c .before .before .before .before .before .before .before .before .before .before .before .before .before .before .before .loop .inv .2 ∙ p .1 .1 .1 .1 .1 .0))),
-          ),
-        ),
-      ),
-    )
+    let opens = c .before .before .before .before .before .before .is-opened .ensures in
+    let r = c .before .before .before .before .before .before .before .before .before .before .before .before in
+    let long = c .before .before .before .before .before .before .before .before .before .before .before .before .before .before .before .loop .inv .2 ∙ p .1 .1 .1 .1 .1 .0 in
+    ((p .0 .M-most, omega (arith, p .0 .M-most)), (below, (place-most (s .so) here below .1, ((λ t. place-below (s .so) here below (sym opens ∙ t)), (long-h r, (long-pi r, (long-psi r, long)))))))
 
 add-e : tie.Need-add-e Inv-loop μ-loop
 add-e c = omega (arith, c .before .before .before .before .before .before .before .before .before .before .before .before .before .before .before .before .before .loop-test .taken, c .before .before .before .before .before .before .before .before .before .before .before .before .before .before .before .before .before .before .before .before .before .before .before .before .before .before .before .pre .0 .M-most)
@@ -106,9 +100,9 @@ loop-again c =
     let stored = c .before .before .store .ensures in (
       omega (arith, c .before .before .before .before .before .before .before .before .before .before .before .before .before .before .before .before .before .loop-test .taken),
       (λ K P so.
-          going-next K P (inv .1 K P so) (c .before .before .before .before .before .before .before .before .before .before .before .before .before .before .before .round .ensures .0 K P so) (c .before .before .before .before .before .before .before .before .if1 .left)
-          (c .before .before .before .before .before .before .before .is-opened .ensures ∙ ap (λ x. opened x (c .before .before .before .before .before .before .before .before .before .before .before .before .before .before .before .before .before .before .loop .e)) (sym (so .second))) stored),
-      stored .long ∙ inv .2,
+          going-next K P (inv .1 K P so) (c .before .before .before .before .before .before .before .before .before .before .before .before .before .before .before .round .ensures .0 K P so) (c .before .before .before .before .before .before .before .before .before .is-opened .ensures ∙ ap (λ x. opened x (c .before .before .before .before .before .before .before .before .before .before .before .before .before .before .before .before .before .before .loop .e)) (sym (so .second))) (c .before .before .before .before .before .before .before .before .counted .ensures)
+          (c .before .before .before .before .before .before .before .if1 .left) (so .executions) (ap₂ (λ x y. x - y) (so .executions) (so .openings)) (stored .0) (stored .1)),
+      stored .0 .long ∙ inv .2,
       c .before .before .before .before .before .before .before .before .before .before .before .before .before .before .before .round .ensures .1 ∙ inv .3,
     )
 
@@ -136,10 +130,11 @@ walk-spec =
     sub-kept
     loop-holds
     round-requires
+    is-opened-requires
+    counted-requires
     same-length
     same-length-2
     returns
-    is-opened-requires
     sub-store
     slice-aggregate-store
     slice-aggregate-store-2
