@@ -1,5 +1,7 @@
-# make test         the gate: make tests, then rt ci
-# make tests        the second implementation on the vectors, the proved library beside both, the claims page
+# make test         the gate: make checks, then rt ci, then make runs
+# make checks       what needs no proof: use lines and edits, the claims page, and that these two see what they are to see
+# make runs         what runs: the second implementation, the definitions and the proved library, on vectors and beside each other
+# make tests        make checks and make runs
 # make definitions  the definitions of specs/, as they stand there, on the vectors
 # make shared-vectors VECTORS=folder   all vector files of a folder through the library's C calls
 # make compare      the library's C calls beside the second implementation on more than a million inputs
@@ -7,7 +9,7 @@
 # make weak         the pair reader on collisions: a copy of the library whose hash is cut to a few values
 # make bench        our time over that of C, in one run; make stack: the stack of each call
 # make lib          library and header in dist/
-# make pin          writes the table of numbers and the pinned contracts and definitions anew, to be reviewed
+# make pin          writes the table of numbers and tools/pinned.txt anew, to be reviewed
 # make demo         an example of firmware: a badge, a door and an auditor
 # make clean        removes what was built
 CC = gcc
@@ -23,20 +25,28 @@ REFERENCE = $(addprefix reference/,sha256.c aes128.c streams.c key.c tree.c exec
 HEADERS = $(wildcard include/*.h reference/*.h tests/c/*.h)
 LIBBADGE = target/staticlib/libbadge.a
 LIBPRIMITIVES = target/staticlib/libprimitives.a
+PROVED := crates.txt $(shell find crates -name must-fail -prune -o -print)
 
-.PHONY: test tests tidy claims pin reference definitions primitives calls shared-vectors beside program compare campaign weak stack bench lib demo clean
+.PHONY: test checks runs tests tidy claims gate-check pin reference definitions spoiled primitives calls shared-vectors beside program compare campaign weak stack bench lib demo clean
 .SECONDARY:
 
 test:
 	./.ci/run
 
-tests: tidy claims reference definitions primitives calls weak beside program stack demo
+checks: tidy claims gate-check
+
+runs: reference definitions spoiled primitives calls weak beside program stack demo
+
+tests: checks runs
 
 tidy:
 	python3 tools/check_tidy.py
 
 claims:
 	python3 tools/check_claims.py
+
+gate-check:
+	python3 tests/gate.py
 
 pin:
 	python3 tools/check_claims.py --pin
@@ -49,15 +59,18 @@ $(BUILD)/libreference.so: $(REFERENCE) $(HEADERS) | $(BUILD)
 
 definitions: $(BUILD)/libreference.so
 	python3 tools/definitions.py $(BUILD)/libreference.so
+	python3 tests/wrong_versions.py $(BUILD)/libreference.so
+
 
 $(BUILD):
 	mkdir -p $(BUILD)
 
 # The proved library, and variants of it for tests.
 
-target/staticlib/lib%.a: $(wildcard crates/*/src/*.rt) crates.txt
-	rt staticlib $* > target-$*.log 2>&1 || { cat target-$*.log; rm -f target-$*.log; exit 1; }
-	rm -f target-$*.log
+target/staticlib/lib%.a: $(PROVED)
+	mkdir -p target
+	rt staticlib $* > target/staticlib-$*.log 2>&1 || { cat target/staticlib-$*.log; exit 1; }
+	test -s $@ && touch $@
 
 # One rt at a time.
 $(LIBBADGE): | $(LIBPRIMITIVES)
@@ -108,6 +121,10 @@ weak: $(COMMANDS)_weak2 $(COMMANDS)_weak16
 shared-vectors: $(COMMANDS) $(COMMANDS)_weak2 $(COMMANDS)_weak16
 	python3 reference/vectors.py --build $(<D) --calls $(VECTORS)
 
+# What is wrong with a file or a folder of vectors is seen.
+spoiled: $(BUILD)/libreference.so $(COMMANDS) $(COMMANDS)_weak2 $(COMMANDS)_weak16
+	python3 tests/spoiled.py $< --build $(BUILD)/badge --calls
+
 # The library beside the second implementation.
 
 $(BUILD)/O2/compare: reference/compare.c $(BUILD)/O2/badge.o $(BUILD)/O2/reference.o $(LIBBADGE)
@@ -132,12 +149,12 @@ beside: $(BUILD)/O2/compare
 	$< 200
 	$(MAKE) --no-print-directory campaign SAMPLES=100
 
-target/bin/verdict: $(LIBBADGE) crates/verdict/src/main.rt
+target/bin/verdict: $(PROVED) | $(LIBBADGE)
 	rt check verdict > target/verdict.log 2>&1 || { cat target/verdict.log; exit 1; }
 	test -x $@ && touch $@
 
-program: target/bin/verdict
-	python3 tests/program.py target/bin/verdict
+program: target/bin/verdict $(BUILD)/libreference.so
+	python3 tests/program.py target/bin/verdict $(BUILD)/libreference.so
 
 # Times.
 

@@ -20,8 +20,8 @@
  *    4 L: 16 bytes
  * Executions and parties count from 1. The kept executions are those not in E, in rising order.
  *
- * Refusals. A refused call answers one number, that of the first row of document 01's table that applies, and leaves every output as
- * it was. The numbers have names below.
+ * Refusals. A refused call answers one number, the first that applies in document 01's order, and leaves every output as it was. The
+ * numbers have names below.
  *
  * What the caller owes, since C cannot be held to it:
  *    each pointer is valid for its length, those of uint32_t lists aligned for uint32_t;
@@ -29,11 +29,11 @@
  *    the stack has the room that BADGE_STACK and its like name below (measured, not proved).
  *
  * Before you open a door on a verdict: an accepted transcript alone proves nothing. Its challenges stand in it, and anyone can write an
- * accepted transcript for any key. The controller itself must choose E, L and the hidden list, each after the message before it has
- * arrived, unpredictably, and once; and then judge the transcript that has these.
+ * accepted transcript for any key that is read. The controller itself must choose E, L and the hidden list, each after the message before
+ * it has arrived, unpredictably, and once; and then judge the transcript that has these.
  *
- * Before you answer a challenge with a badge: two answers to two hidden lists after the same message 1 give the secret away. That is what
- * badge_pair shows. A badge takes new seeds for every run and answers each run once.
+ * Before you answer a challenge with a badge: two answers to two hidden lists after the same messages and challenges before them give the
+ * secret away. That is what badge_pair shows. A badge takes new seeds for every run and answers each run once.
  *
  * docs/CLAIMS.md says what is proved of these calls, and what is not. The library is for x86-64 Linux. */
 #ifndef BADGE_H

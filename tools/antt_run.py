@@ -8,7 +8,7 @@
 
 It reads a subset: `name : type` and clauses with patterns on zero, suc, [], ::, true, false and constructors; records, data,
 `module _ (x : T) where` sections, lambda, let, pick, the operators of PREC. `load(path, stop)` ends at a line that holds `stop`,
-`load(path, None, names)` takes only those names. Tests of a `test => number` list are lazy, all else is strict. A definition that
+`load(path, None, names)` takes only those names, `enum(path, name)` the constructors of an enum of the code. Tests of a `test => number` list are lazy, all else is strict. A definition that
 it cannot read stops it; a result says what the definition says only as far as the builtins say what theirs do.
 """
 import functools, re, sys, threading
@@ -40,6 +40,7 @@ def getD(x, i, d): return x[i] if i < len(x) else d
 G = {}        # name -> Fn or value
 AR = {}       # name -> arity
 CONS = {}     # constructor -> arity
+HERE = {}     # those that the file at hand uses or declares
 def builtin(n, ar, f): G[n] = Fn(ar, f, (), n); AR[n] = ar
 builtin('length', 1, len); builtin('getD', 3, getD); builtin('take', 2, lambda n, x: x[:n]); builtin('drop', 2, lambda n, x: x[n:])
 builtin('eqb', 2, lambda a, b: a == b); builtin('ltb', 2, lambda a, b: a < b); builtin('leb', 2, lambda a, b: a <= b); builtin('not', 1, lambda a: not a)
@@ -106,8 +107,8 @@ class P:
             if n == 'pick' and len(args) >= 3:
                 r = f"({args[1]} if {args[0]} else {args[2]})"; rest = args[3:]
                 return f"ap({r},{','.join(rest)})" if rest else r
-            if n in CONS:
-                assert len(args) == CONS[n], n
+            if n in HERE:
+                assert len(args) == HERE[n], n
                 return f"Con({n!r}{''.join(',' + a for a in args)})"
             ar = AR[full]
             g = f"G[{full!r}]"
@@ -141,7 +142,7 @@ def match(t, x):
     depth = 0
     for i, (k, v) in enumerate(t):
         depth += {'(': 1, ')': -1}.get(v, 0)
-        if i and v in CONS and depth == 0 and v in PREC:
+        if i and v in HERE and depth == 0 and v in PREC:
             a, b = match(t[:i], f'{x}.a[0]'), match(t[i + 1:], f'{x}.a[1]')
             return [f'{x}.n=={v!r}'] + a[0] + b[0], a[1] + b[1]
     if len(t) == 1:
@@ -150,7 +151,7 @@ def match(t, x):
         if v == 'zero': return [f'{x}==0'], []
         if v == 'true': return [f'force({x}) is True'], []
         if v == 'false': return [f'force({x}) is False'], []
-        if v in CONS: return [f'{x}.n=={v!r}'], []
+        if v in HERE: return [f'{x}.n=={v!r}'], []
         return [], [(v, x)]
     if t[0][1] == '(' : return match(t[1:-1], x) if len(pats(t)) == 1 else None
     if names[0] == 'suc':
@@ -159,10 +160,17 @@ def match(t, x):
     for i, q in enumerate(pats(t[1:])):
         r = match(q, f'{x}.a[{i}]'); ts += r[0]; bs += r[1]
     return ts, bs
+def enum(path, name):
+    """The constructors of an enum that the code declares."""
+    body = re.search(r'pub enum %s \{(.*?)\n\}' % name, open(path).read(), re.S).group(1)
+    for c, fields in re.findall(r'(\w+)(?:\((.*?)\))?,', body): CONS[c] = len(fields.split(',')) if fields else 0
 def load(path, stop=None, only=None):
     src = open(path).read()
+    other = {y: x for x, y in re.findall(r'([^\s{},]+) as ([^\s{},]+)[,}]', src) if x in CONS}   # constructors used by another name
     if stop: src = src.split(stop)[0]
     lines = [l for l in src.split('\n') if l.strip() and not l.strip().startswith('--')]
+    used = {x.strip('_') for l in lines if l.startswith('use ') for x in re.findall(r'[^\s{},]+', l)}
+    HERE.clear(); HERE.update({c: n for c, n in CONS.items() if c in used})
     # logical lines by indentation
     secs = []  # (indent, params, names)
     i = 0; defs = {}
@@ -183,7 +191,7 @@ def load(path, stop=None, only=None):
             if st.startswith('pub data'):
                 for x in lines[i + 1:j]:
                     m = re.match(r'(\S+) : (.*)', x.strip())
-                    CONS[m.group(1).strip('_')] = m.group(2).count('→')
+                    CONS[m.group(1).strip('_')] = HERE[m.group(1).strip('_')] = m.group(2).count('→')
             i = j; continue
         m = re.match(r'((unfoldable|abbrev) )?(pub )?(\S+) : ', body)
         if m and ' = ' not in body.split(' : ')[0]:
@@ -192,7 +200,7 @@ def load(path, stop=None, only=None):
             if secs: secs[-1][2][nm] = True
             cur = (nm, {x: ('section', [p for s in secs[:k + 1] for p in s[1]], x) for k, s in enumerate(secs) for x in s[2]})
             i = j; continue
-        t = toks(body); eq = next((k for k, (a, v) in enumerate(t) if v == '='), None)
+        t = [(k, other.get(v, v)) for k, v in toks(body)]; eq = next((k for k, (a, v) in enumerate(t) if v == '='), None)
         nm = t[0][1]
         if only and nm not in only: i = j; continue
         if eq is None: raise Exception((path, body))
@@ -213,6 +221,7 @@ def load(path, stop=None, only=None):
             e = dict(env or {}); e.update({p: ('local',) for p in nest}); e.update({b: ('local',) for b, _ in bs})
             pr = P(ex, e); body = pr.expr(); assert pr.i == len(ex), (nm, ex[pr.i:])
             code += f"  if {' and '.join(ts) or 'True'}:\n" + ''.join(f"    {py(b)}={x}\n" for b, x in bs) + f"    return {body}\n"
+        code += f"  raise ValueError({'no clause fits: ' + nm!r})\n"
         ns = dict(G=G, Fn=Fn, ap=ap, Rec=Rec, Con=Con, Lazy=Lazy, force=force)
         exec(code, ns)
         f = functools.lru_cache(None)(ns['f'])

@@ -1,52 +1,34 @@
 #!/usr/bin/env python3
-"""Keeps docs/CLAIMS.md, README.md and include/badge.h true to the crates.
+"""Keeps docs/CLAIMS.md, README.md, include/badge.h and the tests true to the crates.
 
     check_claims.py          checks, and says what is wrong
-    check_claims.py --pin    first writes the table of numbers in README.md and tools/pinned.txt anew from the crates
+    check_claims.py --pin    first writes the table of numbers in README.md and tools/pinned.txt anew
 
-- Every function that the two pages name as `crate::module::function` stands in a listed crate and carries an `ensures`; one that C calls
-  carries no `requires`. Files, crates, C calls and make targets that they name exist, and README.md lists every crate.
-- README.md's table and the header have each number of crates/refusals/src/lib.rt with its name and meaning.
-- The contracts of the functions that docs/CLAIMS.md names, and the files of definitions that their words come from, are those of
-  tools/pinned.txt."""
-import hashlib
-import pathlib
+- Every function has an `ensures`; one that C calls, and the entry points below those, has no `requires`. The two pages name only functions
+  of the listed crates, and files, crates, C calls and make targets that exist; README.md lists every crate and every file of definitions
+  that the claims rest on.
+- README.md's table and the header have each number of crates/refusals/src/lib.rt with its name and meaning, and the vectors each number.
+- The headers declare exactly the functions that C calls, each with its parameters' names, order and types.
+- The words of contracts and definitions mean what the kit says (tools/words.py).
+- What the claims rest on is as it was reviewed (tools/pins.py, tools/pinned.txt)."""
 import re
 import sys
 
-ROOT = pathlib.Path(__file__).resolve().parent.parent
-PINNED = ROOT / "tools" / "pinned.txt"
+import pins
+import repo
+import words
+from repo import ROOT, expect, functions, listed, name_of, read
+
 PAGES = ["docs/CLAIMS.md", "README.md"]
 BUILT = ("target/", "dist/", "reference/build")
 TABLE_START, TABLE_END = "<!-- numbers -->\n", "<!-- end of numbers -->\n"
-wrong = []
-
-
-def read(path):
-    return (ROOT / path).read_text()
-
-
-def expect(right, message):
-    if not right:
-        wrong.append(message)
-
-
-def listed():
-    lines = (line.split("#")[0].split(":")[0].strip() for line in read("crates.txt").splitlines())
-    return [name for name in lines if name]
-
-
-def functions():
-    """The public functions of the listed crates, by crate::module::name: the file, and the text from the attributes to the body."""
-    found = {}
-    for crate in listed():
-        for file in sorted((ROOT / "crates" / crate / "src").rglob("*.rt")):
-            parts = file.relative_to(ROOT / "crates" / crate / "src").with_suffix("").parts
-            path = "::".join([crate] + [x for x in parts if x not in ("lib", "main", "mod")])
-            text = file.read_text().replace("\n{}\n", "\n{\n}\n")
-            for m in re.finditer(r'^((?:#\[no_mangle\]\n)?pub (?:extern "C" )?fn (\w+).*?)(?:^| )\{$', text, re.M | re.S):
-                found[f"{path}::{m.group(2)}"] = file, m.group(1)
-    return found
+ENTRIES = ["judge::run::judge", "pair::reader::pair", *(f"message_{n}::message_{n}" for n in (1, 3, 5, 7))]
+HEADERS = {"include/badge.h": "badge", "tests/c/primitives.h": "primitives"}
+LETTERS = {"e": "E", "kappa": "K", "seed": "L"}     # document 01's letters, which the header has and code may not
+NUMBERS = {"u8": "uint8_t", "u32": "uint32_t", "u64": "uint64_t", "i64": "int64_t", "usize": "size_t", "": "void"}
+FINDINGS, KINDS = range(1, 5), range(1, 9)
+KEY, FILE = range(1, 6), [12, 7, 10, 13, 14, 16, 15, 17, 18, 19]
+GIVEN = {"judge": [0, *KEY, *FILE], "judge_lent": [0, *KEY, 11, *FILE], "lent": range(1, 12), "pair": [*KEY, 11, *range(20, 24)]}
 
 
 def quoted(page):
@@ -57,15 +39,31 @@ def named_functions(page):
     return [n for n in quoted(page) if re.fullmatch(r"[a-z0-9_]+(::[a-z0-9_]+)+", n)]
 
 
-# What the pages name.
+# Functions and what the pages name.
 
 def check_functions(found):
+    for name, function in found.items():
+        called = (function.file.name, function.name) != ("main.rt", "main")
+        expect(function.has("ensures") or not called, f"{name} has no `ensures`: whoever calls it learns nothing")
+        entry = function.is_for_c() or name in ENTRIES
+        expect(not (entry and function.has("requires")), f"{name} is an entry point and has a `requires`")
+    for name in ENTRIES:
+        expect(name in found, f"the entry point {name} is not there")
     for page in PAGES:
-        for n in named_functions(page):
-            contract = found.get(n, (None, ""))[1]
-            expect("ensures" in contract, f"{page} names {n}, which no listed crate has with a contract")
-            expect('extern "C"' not in contract or "requires" not in contract, f"{n} is called from C and has a `requires`")
+        for name in named_functions(page):
+            expect(name in found, f"{page} names {name}, which no listed crate has")
     expect(named_functions("docs/CLAIMS.md"), "docs/CLAIMS.md names no theorem")
+
+
+def check_modules():
+    """Every file of src/ is a part of its crate: the crate's root names it, or the file of the module above it."""
+    for crate in listed():
+        folder = ROOT / "crates" / crate / "src"
+        root = folder / ("main.rt" if (folder / "main.rt").exists() else "lib.rt")
+        for file in sorted(folder.rglob("*.rt")):
+            above = root if file.parent == folder else file.parent.with_suffix(".rt")
+            named = above.exists() and re.search(rf"^(?:pub )?mod {file.stem};$", repo.code(above), re.M)
+            expect(file == root or named, f"{name_of(file)} is a file that no `mod` line names: nothing proves it")
 
 
 def check_files():
@@ -75,6 +73,11 @@ def check_files():
                 continue
             places = [n.rstrip("/"), "crates/*/" + n.rstrip("/"), "crates/*/specs/" + n]
             expect(any(any(ROOT.glob(x)) for x in places), f"{page} names {n}, which is not there")
+
+
+def check_trusted():
+    for file in pins.unread(named_functions("docs/CLAIMS.md"), "README.md", "Who audits the claims"):
+        expect(False, f"README.md does not tell an auditor of {name_of(file)}, whose definitions the claims rest on")
 
 
 def check_crates():
@@ -87,12 +90,44 @@ def check_crates():
 
 
 def check_commands():
-    header, makefile = read("include/badge.h") + read("tests/c/primitives.h"), read("Makefile")
+    header, known = "".join(map(read, HEADERS)), pins.rules()
     for page in PAGES:
         for n in re.findall(r"\bbadge_[a-z0-9_]+\b", read(page)):
             expect(f" {n}(" in header, f"{page} names {n}, which no header declares")
         for n in re.findall(r"(?:`|^ +)make ([a-z-]+)", read(page), re.M):
-            expect(re.search(rf"^{n}:", makefile, re.M), f"{page} names `make {n}`, which the Makefile has not")
+            expect(n in known, f"{page} names `make {n}`, which the Makefile has not")
+    for other in ("GNUmakefile", "makefile"):
+        expect(not (ROOT / other).exists(), f"make reads {other} in place of the Makefile")
+
+
+# The headers.
+
+def in_c(name, kind):
+    """A parameter as C has it."""
+    m = re.fullmatch(r"&(mut )?\[(\w+)(?:; (\d+))?\]", kind)
+    if not m:
+        return f"{NUMBERS.get(kind, kind)} {name}"
+    changed, number, length = m.groups()
+    start = ("" if changed else "const ") + NUMBERS.get(number, number)
+    return f"{start} {name}[{length}]" if length else f"{start} *{name}, size_t {name}_length"
+
+
+def declaration(function, letters):
+    parameters = ", ".join(in_c(letters.get(name, name), kind) for name, kind in function.parameters())
+    return f"{NUMBERS.get(function.result(), function.result())} {function.name}({parameters or 'void'})"
+
+
+def check_headers(found):
+    for header, crate in HEADERS.items():
+        text = re.sub(r"/\*.*?\*/", "", read(header), flags=re.S)
+        said = [" ".join(x.split()) for x in re.findall(r"^\w+ \w+\([^;{}]*\)(?=;)", text, re.M)]
+        letters = LETTERS if crate == "badge" else {}
+        right = [declaration(f, letters) for n, f in found.items() if n.startswith(crate + "::") and f.is_for_c()]
+        for x in sorted(set(right) - set(said)):
+            expect(False, f"{header} does not declare what C calls in crate {crate}: {x}")
+        for x in sorted(set(said) - set(right)):
+            expect(False, f"{header} declares what crate {crate} has not: {x}")
+        expect(len(said) == len(set(said)), f"{header} declares a function twice")
 
 
 # The numbers of refusals.
@@ -129,81 +164,18 @@ def check_numbers():
         expect(said == (n, when.translate(in_ascii).lower()), f"include/badge.h does not say of {name} what crates/refusals says: {n}, {when}")
 
 
-# Contracts and definitions, pinned.
-
-def taken(text):
-    """What the `use` lines take from specifications of this repository: crate, module, name."""
-    for m in re.finditer(r"^(?:ghost )?use Rattle·(\w+?)(?:·specs)?\.specs\.([\w.-]+?)\.\{(.*?)\}", text, re.M):
-        for name in m.group(3).split(","):
-            yield m.group(1), m.group(2), name.strip()
-
-
-def words(file, contract):
-    """The words of a contract that come from specifications of this repository."""
-    tokens = set(re.findall(r"[^\s(){},;.]+", contract))
-    return sorted(x for x in taken(file.read_text()) if x[2].strip("_") in tokens)
-
-
-def reached(found, named):
-    """The files of definitions that the contracts' words come from, followed through the files' own `use` lines."""
-    todo = [(crate, module) for n in named for crate, module, _ in words(*found[n])]
-    files, types = set(), set()
-    while todo:
-        crate, module = todo.pop()
-        file = ROOT / "crates" / crate / "specs" / (module.replace(".", "/") + ".antt")
-        if module.startswith("declared."):
-            types.add((crate, module.split(".")[1]))
-        elif file.exists() and file not in files:
-            files.add(file)
-            todo += [(c, m) for c, m, _ in taken(file.read_text())]
-    return sorted(files), sorted(types)
-
-
-def declared(crate, name):
-    """The text of a type that the crate's code declares."""
-    for file in sorted((ROOT / "crates" / crate / "src").rglob("*.rt")):
-        m = re.search(rf"^pub (?:struct|enum) {name}\b.*?^\}}", file.read_text(), re.M | re.S)
-        if m:
-            return m.group(0)
-    return "not found"
-
-
-def pins():
-    """What is pinned: a heading and its text."""
-    found = functions()
-    named = [n for n in sorted(named_functions("docs/CLAIMS.md")) if n in found]
-    result = {}
-    for n in named:
-        sources = "".join(f"  {name}: {crate} {module}\n" for crate, module, name in words(*found[n]))
-        result[f"contract {n}"] = found[n][1] + sources
-    files, types = reached(found, named)
-    for crate, name in types:
-        result[f"type {crate}::{name}"] = declared(crate, name)
-    for file in files:
-        result[f"definitions {file.relative_to(ROOT)}"] = hashlib.sha256(file.read_bytes()).hexdigest()
-    return result
-
-
-def pinned_text(result):
-    head = "Contracts, types and definitions as they were reviewed. `make pin` writes this file; read its difference before you commit it.\n"
-    return head + "".join(f"\n== {title}\n{text.rstrip()}\n" for title, text in result.items())
-
-
-REVIEW = {
-    "contract": "read it beside the sentence of docs/CLAIMS.md that names it, and this sentence's premises and limits",
-    "type": "read the definitions that give its cases document 01's numbers and values",
-    "definitions": "read it beside document 01 (README.md, Who audits the claims), and run `make definitions`",
-}
-
-
-def check_pins():
-    new = pins()
-    old = dict(x.split("\n", 1) for x in PINNED.read_text().split("\n== ")[1:]) if PINNED.exists() else {}
-    for title in dict.fromkeys([*old, *new]):
-        change = "is not pinned yet" if title not in old else "is no longer there" if title not in new else "has changed"
-        same = title in old and title in new and old[title].rstrip() == new[title].rstrip()
-        expect(same, f"{title} {change}: {REVIEW[title.split()[0]]}; then run `make pin`")
-    return new
+def check_vectors():
+    """The vectors of each call have every number that it can answer, and every finding and kind of hash input that can collide."""
+    answers = {file.stem: [x["expect"] for x in examples if "expect" in x] for file, examples in pins.vectors().items()}
+    for stem, given in GIVEN.items():
+        seen = [x.get("refused") if isinstance(x, dict) else x for x in answers.get(stem, [])]
+        for n in given:
+            expect(n in seen, f"no vector of tests/vectors/{stem}.jsonl is answered with the number {n}")
+    found = [x for several in answers.values() for x in several if isinstance(x, dict)]
+    for n in FINDINGS:
+        expect(any(x.get("finding") == n for x in found), f"no vector of tests/vectors has finding {n}")
+    for n in KINDS:
+        expect(any(x.get("kind") == n for x in found), f"no vector of tests/vectors has a collision of kind {n}")
 
 
 def main():
@@ -211,20 +183,24 @@ def main():
         page = read("README.md")
         start, end = page.index(TABLE_START), page.index(TABLE_END) + len(TABLE_END)
         (ROOT / "README.md").write_text(page[:start] + number_table() + page[end:])
-        PINNED.write_text(pinned_text(pins()))
+        pins.write(named_functions("docs/CLAIMS.md"))
     found = functions()
     check_functions(found)
+    check_modules()
     check_files()
+    check_trusted()
     check_crates()
     check_commands()
+    check_headers(found)
     check_numbers()
-    kept = check_pins()
-    for message in wrong:
+    check_vectors()
+    words.check_words()
+    kept = pins.check(named_functions("docs/CLAIMS.md"))
+    for message in dict.fromkeys(repo.wrong):
         print(message)
-    counts = {kind: sum(title.startswith(kind + " ") for title in kept) for kind in REVIEW}
-    print(f"claims: {counts['contract']} contracts, {counts['type']} types and {counts['definitions']} files of definitions as pinned, "
-          f"{len(numbers())} numbers; {len(wrong)} wrong")
-    sys.exit(1 if wrong else 0)
+    print(f"claims: {len(found)} functions, {len(numbers())} numbers; as pinned {kept['contract']} contracts, {kept['definitions']} files of "
+          f"definitions, {kept['claim']} sentences; {len(repo.wrong)} wrong")
+    sys.exit(1 if repo.wrong else 0)
 
 
 main()

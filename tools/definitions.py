@@ -1,31 +1,36 @@
 #!/usr/bin/env python3
 """Runs the definitions of specs/, as they stand there, on the repository's vectors.
 
-    definitions.py LIBRARY [FILE..]     LIBRARY: the second implementation as a shared object; FILE: vector files, default all
+    definitions.py LIBRARY [--stop] [FILE..]    LIBRARY: the second implementation as a shared object; FILE: vector files, default all
 
-First SHA-256 and AES-128 by their definitions, on published examples and beside Python's hashlib and the second implementation. Then
+`reference/forms.py` has the forms of the files; what is not as it should be counts as different. With --stop it ends at the first
+vector that differs, and leaves the standards out. First SHA-256 and AES-128 by their definitions, on published examples and beside Python's hashlib and the second implementation. Then
 the vectors: those of keys up to WHOLE with SHA-256 and AES-128 by their definitions, the larger ones with both from the second
 implementation, for time. What stays outside the definitions is Python's: length, getD, take, drop, replicate, comparisons of numbers,
-bitAnd, bitOr, bitXor. A key's own tests are asked first, since a list of tests is built whole."""
+bitAnd, bitOr, bitXor, and pos and neg of the answers for C. Where q is 0 or another number of the key is past all limits, only the key's
+own tests are run, since a list of tests is built whole."""
 import ctypes
 import functools
 import hashlib
 import importlib.util
-import json
 import pathlib
 import struct
 import sys
 
 ROOT = pathlib.Path(__file__).resolve().parent.parent
+sys.path.insert(0, str(ROOT / "reference"))
+import forms  # noqa: E402
+from refcli import pair_answer  # noqa: E402
 LIBRARY = ctypes.CDLL(sys.argv[1])
 ENOUGH = 10 ** 9
+FILL = 0xa5     # what outputs hold before a call
 WHOLE = 48      # M * N * m of the largest keys whose vectors take nothing from the second implementation
 modulus = None
 whole = False   # whether this vector takes nothing from the second implementation
 
 
 def definitions(*files):
-    """The definitions of the files, in a space of names of their own; a file with names gives only those."""
+    """The definitions of the files, in a space of names of their own; a file with names gives only those, one of code its enum."""
     spec = importlib.util.spec_from_file_location("antt_run", ROOT / "tools" / "antt_run.py")
     space = importlib.util.module_from_spec(spec)
     spec.loader.exec_module(space)
@@ -34,32 +39,50 @@ def definitions(*files):
     space.builtin("replicate", 2, lambda n, x: (x,) * n)
     space.builtin("sha256", 1, digest)
     space.builtin("block", 2, block)
+    space.builtin("pos", 1, lambda n: n)
+    space.builtin("negℤ", 1, lambda n: -n)
     for path, *names in files:
-        space.load(str(ROOT / "crates" / (path + ".antt")), None, names)
+        if path.endswith(".rt"):
+            space.enum(str(ROOT / "crates" / path), *names)
+        else:
+            space.load(str(ROOT / "crates" / (path + ".antt")), None, names)
     return space
 
 
+# By their definitions both are kept from one vector to the next, since vectors of one key share most of them.
+
 @functools.lru_cache(None)
+def defined_digest(x):
+    return sha.call("sha256", x)
+
+
+@functools.lru_cache(None)
+def defined_block(seed, j):
+    return aes.call("block", seed, j)
+
+
 def digest(x):
     if whole:
-        out = bytes(sha.call("sha256", x))
+        out = defined_digest(x)
     else:
         out = ctypes.create_string_buffer(32)
         LIBRARY.sha256(bytes(x), ctypes.c_size_t(len(x)), out)
-        out = out.raw
-    return tuple(out) if modulus is None else (out[0] % modulus,) + (0,) * 31
+        out = tuple(out.raw)
+    return out if modulus is None else (out[0] % modulus,) + (0,) * 31
 
 
 @functools.lru_cache(None)
-def block(seed, j):
-    if whole:
-        return aes.call("block", seed, j)
-    if len(seed) != 16:
-        return (0,) * 16
+def library_block(seed, j):
     key, out = ctypes.create_string_buffer(512), ctypes.create_string_buffer(16)
     LIBRARY.aes128_expand(key, bytes(seed))
     LIBRARY.aes128_encrypt(key, j.to_bytes(16, "big"), out)
     return tuple(out.raw)
+
+
+def block(seed, j):
+    if whole:
+        return defined_block(seed, j)
+    return library_block(seed, j) if len(seed) == 16 else (0,) * 16
 
 
 sha = definitions(("sha_core/specs/Fips180",))
@@ -69,7 +92,11 @@ a = definitions(
     ("lists/specs/Tab", "tab"), ("lists/specs/Index",), ("lists/specs/Bytes",), ("lists/specs/Check",), ("numbers/specs/Mod", "sub"),
     ("numbers/specs/Sum", "sum"), ("numbers/specs/Inverse", "qs", "Ns", "inverseOf"), ("numbers/specs/Output", "out", "uOf", "vOf"),
     ("streams/specs/Streams", "word64", "number", "draw"), ("tree/specs/Tree",), ("protocol/specs/Key",), ("protocol/specs/Shares",),
-    ("protocol/specs/Prover",), ("protocol/specs/Transcript",), ("protocol/specs/Judge",), ("protocol/specs/Pair",))
+    ("protocol/specs/Prover",), ("protocol/specs/Transcript",), ("protocol/specs/Judge",), ("protocol/specs/Pair",),
+    ("refusals/specs/Number", "numberOf"), ("pair/specs/Lent",), ("badge/specs/PairCall",),
+    ("reading/specs/Answers", "over", "hash1Of", "hash2Of", "bitsOf", "errorsOf"), ("answer/specs/Codes", "findingCode"),
+    ("answer/specs/Rows", "row", "rowAfter"))
+answers = definitions(("lists/specs/Check",), ("prover/src/lib.rt", "Answer"), ("prover/specs/Answers",), ("answer/specs/Codes", "codeOf"))
 
 
 def hexes(text):
@@ -78,11 +105,12 @@ def hexes(text):
 
 def keyed(key, then):
     own = a.call("first", a.call("keyChecks", a.call("keyOf", key), key))
-    return own if own.n == "refused" else then()
+    q, *others = struct.unpack("<6I", bytes(key[:24]).ljust(24, b"\0"))
+    return own if own.n == "refused" and (q == 0 or max(others) > 128) else then()
 
 
 def number(verdict):
-    return 0 if verdict.n == "accepted" else verdict.a[0]
+    return a.call("numberOf", verdict)
 
 
 def record(**fields):
@@ -96,6 +124,11 @@ def inputs(v):
 def judge(v):
     key = hexes(v["key"])
     return {"expect": number(keyed(key, lambda: a.call("judge", key, hexes(v["run"]))))}
+
+
+def judge_lent(v):
+    key, lengths = hexes(v["key"]), [ENOUGH if v[x] is None else v[x] for x in ("work_len", "at_len")]
+    return {"expect": number(keyed(key, lambda: a.call("judgeLent", key, *lengths, hexes(v["run"]))))}
 
 
 def prover(v):
@@ -112,27 +145,50 @@ def lent(v):
     seeds, secret, E, k, L, hidden = inputs(v)
     given = {1: (seeds,), 3: (seeds, secret, E, k), 5: (seeds, secret, E, k, L), 7: (seeds, secret, E, k, L, hidden)}[call]
     lengths = [ENOUGH if v[x] is None else v[x] for x in ("out_len", "place", "work_len", "at_len")]
-    verdict = number(keyed(key, lambda: a.call(f"verdict{call}", key, *given, *lengths)))
-    if verdict:
-        return {"expect": {"refused": verdict}}
-    return {"expect": {"message": bytes(a.call(f"message{call}", a.call("keyOf", key), *given)).hex()}}
+    verdict = keyed(key, lambda: a.call(f"verdict{call}", key, *given, *lengths))
+    message = a.call(f"message{call}", a.call("keyOf", key), *given) if verdict.n == "accepted" else ()
+    code = answers.call("codeOf", answers.call("answerOf", verdict, message))
+    place, before = v["place"], (FILL,) * (v["place"] + len(message) + 9 if v["out_len"] is None else v["out_len"])
+    after = a.call("output", verdict, message, place, before)
+    written = after[place:place + max(code, 0)]
+    stays(before, after, place, written)
+    return {"expect": {"refused": -code} if code < 0 else {"message": bytes(written).hex()}}
+
+
+def stays(before, after, place, written):
+    """All that is not written is as it was."""
+    if after != before[:place] + written + before[place + len(written):]:
+        raise ValueError("an output holds something else outside of what was written")
+
+
+def left(name, reading, before, length):
+    """The first numbers of an output after the call, which are all that is written."""
+    after = a.call(name, reading, before)
+    stays(before, after, 0, after[:length])
+    return after[:length]
 
 
 def pair(v):
-    key, asked = hexes(v["key"]), v.get("lens") or {}
-    names = dict(work="work_len", entry="at_len", hash1="buffer1_len", hash2="buffer2_len", bits="secret_len", errs="uv_len")
-    lengths = record(**{k: asked.get(x, ENOUGH) for k, x in names.items()})
-    r = keyed(key, lambda: a.call("pair", key, lengths, hexes(v["run1"]), hexes(v["run2"])))
-    if r.n in ("refused", "refusal"):
-        return {"expect": {"refused": r.a[0]}}
-    if r.n == "collision":
-        kind, e, i, x, y = r.a
-        return {"expect": {"finding": 1, "kind": kind, "e": e, "i": i, "length": len(x), "input1": bytes(x).hex(), "input2": bytes(y).hex()}}
-    if r.n == "secret":
-        return {"expect": {"finding": 2, "secret": bytes(r.a[0]).hex()}}
-    if r.n == "square":
-        return {"expect": {"finding": 3, **dict(zip(("e", "k", "b", "d"), r.a))}}
-    return {"expect": {"finding": 4, "e": r.a[0], "uv": list(r.a[1])}}
+    """Through the C call's answer: its number, the eight numbers and the lent outputs after the call."""
+    key, K, asked = hexes(v["key"]), a.call("keyOf", hexes(v["key"])), v.get("lens") or {}
+    length = {x: ENOUGH if asked.get(x) is None else asked[x] for x in forms.LENGTHS}
+    lent_lists = a.call("lengths", *[length[x] for x in ("buffer1_len", "buffer2_len", "secret_len", "uv_len", "at_len", "work_len")])
+    r = keyed(key, lambda: a.call("pairCall", length["answer_len"], key, lent_lists, hexes(v["run1"]), hexes(v["run2"])))
+    if r.n == "refused":
+        return {"expect": {"refused": number(r)}}
+    before = {x: (FILL,) * min(length[x], 16400) for x in length}
+    answer = a.call("says", r)
+    code, row = a.call("findingCode", answer), a.call("rowAfter", answer, before["answer_len"])
+    size = row[3] if code == 1 else 0
+    one, two = (bytes(left(f, r, before[x], size)).hex() for f, x in (("hash1Of", "buffer1_len"), ("hash2Of", "buffer2_len")))
+    bits = bytes(left("bitsOf", r, before["secret_len"], field(K, "m") if code == 2 else 0)).hex()
+    uv = list(left("errorsOf", r, before["uv_len"], field(K, "n") + field(K, "m") if code == 4 else 0))
+    if code < 0:
+        stays(before["answer_len"], row, 0, ())
+        return {"expect": {"refused": -code}}
+    stays(before["answer_len"], row, 0, row[:8])
+    texts = {1: [one, two], 2: [bits], 3: [], 4: [",".join(map(str, uv))]}[code]
+    return {"expect": pair_answer(["finding", str(code), ",".join(map(str, row[:8]))] + texts)}
 
 
 def field(r, name):
@@ -189,7 +245,8 @@ def primitives(v):
     return execution(K, v)
 
 
-KINDS = {"primitives": primitives, "judge": judge, "prover": prover, "lent": lent, "pair": pair, "trace": trace, "weak_pair": pair}
+KINDS = {"primitives": primitives, "judge": judge, "judge_lent": judge_lent, "prover": prover, "lent": lent, "pair": pair,
+         "trace": trace, "weak_pair": pair}
 
 
 def standards():
@@ -221,25 +278,29 @@ def is_small(v):
     return M * N * m <= WHOLE or max(m, N, M) > 128
 
 
+def compute(kind, v):
+    global modulus, whole, alone
+    modulus, whole = v.get("modulus"), is_small(v)
+    a.clear(), sha.clear(), library_block.cache_clear()
+    alone += whole
+    return KINDS[kind](v)
+
+
 def main():
-    global modulus, whole
-    wrong = standards()
-    for file in sys.argv[2:] or [ROOT / "tests" / "vectors" / (k + ".jsonl") for k in KINDS]:
-        kind, run, alone = pathlib.Path(file).stem, 0, 0
-        for line in open(file):
-            v = json.loads(line)
-            modulus, whole = v.get("modulus"), is_small(v)
-            a.clear(), sha.clear(), digest.cache_clear(), block.cache_clear()
-            got = KINDS[kind](v)
-            run, alone = run + 1, alone + whole
-            if any(v[x] != got[x] for x in got):
-                wrong += 1
-                print(f"{kind}: {v['id']}: the definitions give {str(got)[:200]}")
-        print(f"definitions: {kind}: {run} vectors run, {alone} with nothing from the second implementation")
+    global alone
+    stop = sys.argv[2:3] == ["--stop"]
+    wrong = 0 if stop else standards()
+    for path in sys.argv[2 + stop:] or [str(ROOT / "tests" / "vectors" / (kind + ".jsonl")) for kind in forms.KINDS]:
+        alone = 0
+        run, differ = forms.compare(path, compute, stop)
+        wrong += differ
+        print(f"definitions: {pathlib.Path(path).stem}: {run} vectors run, {alone} with nothing from the second implementation")
+        if stop and wrong:
+            break
     print(f"definitions: {wrong} different")
     failed.append(wrong)
 
 
-failed = []
+failed, alone = [], 0
 a.run(main)
 sys.exit(0 if failed == [0] else 1)
