@@ -1,4 +1,4 @@
-/* The second implementation behind a line-oriented command program; with BADGE defined, the library of badge.h and its streams.
+/* The second implementation behind a line-oriented command program; with BADGE defined, the calls are those of badge.h.
  *
  * A line is a command and its arguments, byte lists in hex ("-" for an empty one), numbers in
  * decimal. Each line is answered by one line. Lent lists are allocated at the very length that is
@@ -113,21 +113,30 @@ static void run_numbers(void)
     struct list seed = bytes_of(1, 16);
     size_t count = number(4);
     uint32_t *out = allocate(4 * count);
+    struct aes128 key;
+    aes128_expand(&key, seed.at);
+    stream_numbers(&key, number(2), (uint32_t)number(3), out, count);
+    print_numbers(out, count);
+    free(out);
+    free(seed.at);
+}
+
 #ifdef BADGE
+/* drawn seed first q count: the same by the library's call */
+static void run_drawn(void)
+{
+    struct list seed = bytes_of(1, 16);
+    size_t count = number(4);
+    uint32_t *out = allocate(4 * count);
     uint32_t refused = badge_numbers(seed.at, 16, number(2), (uint32_t)number(3), out, count);
     if (refused)
         printf("refused %u", refused);
     else
         print_numbers(out, count);
-#else
-    struct aes128 key;
-    aes128_expand(&key, seed.at);
-    stream_numbers(&key, number(2), (uint32_t)number(3), out, count);
-    print_numbers(out, count);
-#endif
     free(out);
     free(seed.at);
 }
+#endif
 
 /* The calls. */
 
@@ -284,9 +293,7 @@ static void run_pair(void)
     give_back(lent);
 }
 
-#ifndef BADGE
-
-/* The layers. */
+/* The layers, the second implementation's in every build. */
 
 static void run_hash(void)
 {
@@ -487,8 +494,6 @@ static void run_trace(void)
     give_back(lent);
 }
 
-#endif
-
 static const struct {
     const char *name;
     void (*run)(void);
@@ -497,7 +502,9 @@ static const struct {
     {"message", run_message},
     {"judge", run_judge},
     {"pair", run_pair},
-#ifndef BADGE
+#ifdef BADGE
+    {"drawn", run_drawn},
+#endif
     {"hash", run_hash},           /* data */
     {"inverse", run_inverse},     /* N q */
     {"block", run_block},         /* seed j */
@@ -510,7 +517,6 @@ static const struct {
     {"output", run_output},
     {"outputs", run_outputs},
     {"trace", run_trace},
-#endif
 };
 
 static void run_line(char *line)

@@ -30,9 +30,13 @@ class Refcli:
         return answer.split()
 
     def close(self):
-        self.process.stdin.close()
-        if self.process.wait() != 0:
-            raise RuntimeError("refcli failed")
+        """The program's status."""
+        self.process.communicate()
+        return self.process.returncode
+
+    def stop(self):
+        self.process.kill()
+        self.process.communicate()
 
 
 def numbers(word):
@@ -54,5 +58,6 @@ def pair_answer(words):
         used, zeros = {"e": e, "k": k, "b": b, "d": d}, [kind, i, length]
     else:
         used, zeros = {"e": e, "uv": numbers(words[3])}, [kind, i, length, k, b, d]
-    assert not any(zeros) and answer[7] == 0
+    if any(zeros) or answer[7] != 0:
+        raise ValueError("finding %d with the answer %s" % (finding, answer))
     return {"finding": finding, **used}

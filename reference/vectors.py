@@ -2,20 +2,22 @@
 
     vectors.py [--build DIRECTORY] [--calls] FILE_OR_DIRECTORY ..
 
-Every file is JSON lines; its name says what it holds. Prints one line for each file and each
-difference, and fails if there is any. With --calls, DIRECTORY has a program that knows the calls and
-no layers; of primitives and traces, what the calls show is compared, and the rest counted as not shown.
+`forms.py` has the forms of the files. Prints one line for each file and each difference, and fails if there is any, or a file that is
+not as it should be, or no vector at all. With --calls, DIRECTORY has the program built with the library's calls; of primitives and
+traces, what the calls do not show is counted, and compared with the second implementation.
 """
 import hashlib
-import json
-import os
 import struct
 import sys
 
+import forms
+from forms import INPUTS, LENT
 from refcli import BUILD, Refcli, numbers, pair_answer
 
-LENT = ["buffer1_len", "buffer2_len", "secret_len", "uv_len", "work_len", "at_len"]
-INPUTS = ["key", "masters", "secret", "E", "K", "L", "hidden"]
+
+def require(holds, otherwise):
+    if not holds:
+        raise ValueError(otherwise)
 
 
 def chunks(hexes, size):
@@ -32,7 +34,7 @@ def primitive(cli, v):
         opened = [chunks(cli("open", N, i, v["master"])[0], 16) for i in range(1, N + 1)]
         for i in range(N):  # and back from the opening
             again = chunks(cli("reopen", N, i + 1, "".join(opened[i]))[0], 16)
-            assert again == leaves[:i] + ["00" * 16] + leaves[i + 1:]
+            require(again == leaves[:i] + ["00" * 16] + leaves[i + 1:], "an opening gives other leaves")
         return {"leaves": leaves, "opened": opened}
     if what == "stream":
         return {"numbers": numbers(cli("numbers", v["seed"], v["first"], v["q"], len(v["numbers"]))[0])}
@@ -64,10 +66,17 @@ def transcript(parts):
     return head.hex() + "".join(parts)
 
 
+def written(cli, v, number):
+    """The message, in hex, of a call that is not refused."""
+    answer = message(cli, v, number)
+    require("message" in answer, "message %d: %s" % (number, answer))
+    return answer["message"]
+
+
 def prover(cli, v):
-    m = {j: message(cli, v, j)["message"] for j in (1, 3, 5, 7)}
+    m = {j: written(cli, v, j) for j in (1, 3, 5, 7)}
     run = transcript([m[1], v["E"], m[3], v["L"], m[5], v["hidden"], m[7]])
-    assert cli("judge", v["key"], run) == ["0"]
+    require(cli("judge", v["key"], run) == ["0"], "the judge refuses the run")
     return {"m1": m[1], "m3": m[3], "m5": m[5], "m7": m[7], "run": run}
 
 
@@ -79,14 +88,19 @@ def judge(cli, v):
     return {"expect": int(cli("judge", v["key"], v["run"])[0])}
 
 
+def judge_lent(cli, v):
+    return {"expect": int(cli("judge", v["key"], v["run"], v["work_len"], v["at_len"])[0])}
+
+
 def pair(cli, v):
-    lens = v.get("lens")
-    lengths = [lens[x] for x in LENT] if lens else []
+    lens = v.get("lens") or {}
+    lengths = [lens.get(x) for x in LENT + ["answer_len"]]
     return {"expect": pair_answer(cli("pair", v["key"], v["run1"], v["run2"], *lengths))}
 
 
 def trace(cli, v):
     words = cli("trace", v["key"], v["run1"], v["run2"])
+    require(words[0] != "refused", " ".join(words))
     inputs = []
     for word in words[1:]:
         kind, i, length, one, two = word.split(":")
@@ -96,7 +110,7 @@ def trace(cli, v):
 
 def shown(cli, number, **inputs):
     """The message, in bytes, of inputs in hex."""
-    return bytes.fromhex(message(cli, {**dict.fromkeys(INPUTS, ""), **inputs}, number)["message"])
+    return bytes.fromhex(written(cli, {**dict.fromkeys(INPUTS, ""), **inputs}, number))
 
 
 def number_list(data):
@@ -144,28 +158,35 @@ def output_shown(cli, v):
             "d_N": last[:m], "s_N": last[m:]}
 
 
+def stream_shown(cli, v):
+    """The library's call refuses blocks from 2^62 on."""
+    if v["first"] >= 2 ** 62:
+        return {}
+    return {"numbers": numbers(cli("drawn", v["seed"], v["first"], v["q"], len(v["numbers"]))[0])}
+
+
 def primitive_shown(cli, v):
-    if v["what"] == "stream" and v["first"] < 2 ** 62:
-        return primitive(cli, v)
-    return {"tree": tree_shown, "h": h_shown, "output": output_shown}.get(v["what"], lambda *_: {})(cli, v)
+    shown_by = {"stream": stream_shown, "tree": tree_shown, "h": h_shown, "output": output_shown}
+    return shown_by.get(v["what"], lambda *_: {})(cli, v)
 
 
 def trace_shown(cli, v):
     """No collision where all inputs are equal, and e where the finding has one."""
     got = pair_answer(cli("pair", v["key"], v["run1"], v["run2"]))
     collides = any(one != two for _, _, _, one, two in v["inputs"])
-    assert (got["finding"] == 1) == collides
+    require((got.get("finding") == 1) == collides, "the finding is %s" % got)
     return {"e": got["e"]} if "e" in got else {}
 
 
-KINDS = {"primitives": primitive, "prover": prover, "lent": lent, "judge": judge, "pair": pair,
-         "trace": trace, "weak_pair": pair}
-SHOWN = {**KINDS, "primitives": primitive_shown, "trace": trace_shown}
+COMPUTED = {"primitives": primitive, "prover": prover, "lent": lent, "judge": judge, "judge_lent": judge_lent, "pair": pair,
+            "trace": trace, "weak_pair": pair}
+# What the calls show of the layers; all else is theirs anyhow.
+SHOWN = {"primitives": primitive_shown, "trace": trace_shown}
 
 
 class Runner:
-    def __init__(self, build, kinds=KINDS):
-        self.build, self.kinds = build, kinds
+    def __init__(self, build):
+        self.build = build
         self.programs = {}
 
     def cli(self, modulus):
@@ -173,51 +194,49 @@ class Runner:
             self.programs[modulus] = Refcli(modulus, self.build)
         return self.programs[modulus]
 
-    def compute(self, kind, v):
+    def compute(self, kind, v, by=COMPUTED):
         """The values of the vector that the implementation gives."""
-        return self.kinds[kind](self.cli(v.get("modulus")), v)
+        try:
+            return by[kind](self.cli(v.get("modulus")), v)
+        except Exception:  # the program may have stopped: the next vector gets another
+            if v.get("modulus") in self.programs:
+                self.programs.pop(v.get("modulus")).stop()
+            raise
 
-    def compare(self, path):
-        kind = os.path.basename(path).split(".")[0]
-        count = differ = silent = 0
-        with open(path) as lines:
-            for line in lines:
-                v = json.loads(line)
-                got = self.compute(kind, v)
-                count += 1
-                silent += not got
-                for name in got:
-                    if name in v and got[name] != v[name]:
-                        differ += 1
-                        print("%s %s: %s is %.200s, not %.200s" % (path, v["id"], name, got[name], v[name]))
-        print("%s: %d vectors, %d differences%s" % (path, count, differ, ", %d not shown" % silent if silent else ""))
+    def compare(self, path, calls):
+        silent = 0
+
+        def compute(kind, v):
+            """By the calls; of a layer, by the second implementation, and by the calls what they show."""
+            nonlocal silent
+            got = self.compute(kind, v)
+            if not calls or kind not in SHOWN:
+                return got
+            by_calls = self.compute(kind, v, SHOWN)
+            silent += len(set(got) - set(by_calls))
+            return {x: by_calls.get(x, got[x]) if got[x] == v[x] else got[x] for x in got}
+        count, differ = forms.compare(path, compute)
+        print("%s: %d vectors, %d differences%s" % (path, count, differ,
+              ", %d values not shown by the calls, taken from the second implementation" % silent if silent else ""))
         return count, differ
 
     def close(self):
-        for program in self.programs.values():
-            program.close()
-
-
-def files(arguments):
-    for a in arguments:
-        if os.path.isdir(a):
-            yield from (os.path.join(a, x) for x in sorted(os.listdir(a)) if x.endswith(".jsonl"))
-        else:
-            yield a
+        """How many programs end with an error."""
+        return sum(program.close() != 0 for program in self.programs.values())
 
 
 def main(arguments):
-    build, kinds = BUILD, KINDS
+    build, calls = BUILD, False
     if arguments[:1] == ["--build"]:
         build, arguments = arguments[1], arguments[2:]
     if arguments[:1] == ["--calls"]:
-        kinds, arguments = SHOWN, arguments[1:]
-    runner = Runner(build, kinds)
-    results = [runner.compare(path) for path in files(arguments)]
-    runner.close()
+        calls, arguments = True, arguments[1:]
+    runner = Runner(build)
+    results = [runner.compare(path, calls) for path in forms.files(arguments)]
+    failed = runner.close()
     count, differ = sum(r[0] for r in results), sum(r[1] for r in results)
-    print("%d vectors, %d differences" % (count, differ))
-    return 0 if count > 0 and differ == 0 else 1
+    print("%d vectors, %d differences%s" % (count, differ, ", and the program ended with an error" if failed else ""))
+    return 0 if count > 0 and differ == 0 and not failed else 1
 
 
 if __name__ == "__main__":

@@ -1,8 +1,10 @@
 """Makes vectors with the second implementation, which gives every expected value.
 
     make_vectors.py --out DIRECTORY [--seed NUMBER] [--rounds NUMBER]
+    make_vectors.py --out DIRECTORY --orders [--check]
 
-The same seed gives the same vectors. A round makes, for every q and every N, an honest run, calls
+The second form makes the vectors of `orders.py` anew: they stand at the end of each file of DIRECTORY, and all others stay. With
+--check nothing is written, and it fails if others stand there. In the first, the same seed gives the same vectors. A round makes, for every q and every N, an honest run, calls
 of the prover with damaged inputs, damaged and forged transcripts for the judge, and honest,
 cheating and forged pairs; a weak hash shows collisions. Before the rounds come the limits of keys
 and transcripts, each from both sides.
@@ -293,32 +295,42 @@ def alpha_places(key, hidden):
 
 
 class Maker:
-    def __init__(self, out, seed):
+    def __init__(self, out, seed, build):
         self.rng = random.Random(seed)
-        self.runner = Runner(BUILD)
+        self.runner = Runner(build)
         self.cli = self.runner.cli(None)
         self.out = out
-        self.files = {}
+        self.lines = {}
         self.counts = {}
 
     def write(self, kind, v, **expected):
         """Completes the vector by the implementation's values; expected ones must agree."""
         number = self.counts[kind] = self.counts.get(kind, 0) + 1
         v = {name: x.hex() if isinstance(x, bytes) else x for name, x in v.items()}
-        v["id"] = "made-%d-%s" % (number, v.pop("name"))
+        if "name" in v:
+            v["id"] = "made-%d-%s" % (number, v.pop("name"))
         v.update(self.runner.compute(kind, v))
         for name, x in expected.items():
             got = v["expect"] if isinstance(v["expect"], int) else v["expect"].get(name)
             assert got == x, (v["id"], v["expect"], x)
-        if kind not in self.files:
-            self.files[kind] = open(os.path.join(self.out, kind + ".jsonl"), "w")
-        self.files[kind].write(json.dumps(v) + "\n")
+        self.lines.setdefault(kind, []).append(json.dumps(v) + "\n")
         return v
 
-    def close(self):
-        for f in self.files.values():
-            f.close()
+    def close(self, kept=None, check=False):
+        """Writes the files, after the lines of theirs that are kept; or only compares them. How many differ."""
+        differ = 0
+        for kind, made in self.lines.items():
+            path = os.path.join(self.out, kind + ".jsonl")
+            before = open(path).readlines() if kept and os.path.exists(path) else []
+            after = [x for x in before if kept(x)] + made
+            differ += before != after
+            if check and before != after:
+                print("%s: not the vectors that are made anew" % path)
+            elif not check:
+                with open(path, "w") as f:
+                    f.writelines(after)
         self.runner.close()
+        return differ
 
     # The prover.
 
@@ -667,14 +679,23 @@ def main():
     options.add_argument("--out", required=True)
     options.add_argument("--seed", type=int, default=1)
     options.add_argument("--rounds", type=int, default=1)
+    options.add_argument("--build", default=BUILD)
+    options.add_argument("--orders", action="store_true")
+    options.add_argument("--check", action="store_true")
     chosen = options.parse_args()
     os.makedirs(chosen.out, exist_ok=True)
-    maker = Maker(chosen.out, chosen.seed)
-    maker.edges()
-    for _ in range(chosen.rounds):
-        maker.round()
-    maker.close()
+    maker = Maker(chosen.out, chosen.seed, chosen.build)
+    if chosen.orders:
+        from orders import Orders
+        Orders(maker).all()
+        differ = maker.close(lambda line: not json.loads(line)["id"].startswith("order-"), chosen.check)
+    else:
+        maker.edges()
+        for _ in range(chosen.rounds):
+            maker.round()
+        maker.close()
     print(", ".join("%s %d" % x for x in sorted(maker.counts.items())))
+    sys.exit(1 if chosen.check and differ else 0)
 
 
 if __name__ == "__main__":

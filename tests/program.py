@@ -1,38 +1,111 @@
 #!/usr/bin/env python3
-"""Runs the program `verdict` in folders with various files `key` and `run`, and compares the line that it prints."""
+"""Runs the program `verdict` in folders with various files `key` and `run`, and compares the line that it prints.
+
+    program.py PROGRAM LIBRARY      LIBRARY: the second implementation as a shared object
+
+Each case has its number stated; the second implementation must say the same of the first 65536 bytes of both files. No key tells a
+program that reads more of it: a key of over 16536 bytes is refused by its first 24 bytes or with 4, however long it is."""
+import ctypes
 import json
 import pathlib
+import random
+import struct
 import subprocess
 import sys
 import tempfile
 
 PROGRAM = pathlib.Path(sys.argv[1]).resolve()
+LIBRARY = ctypes.CDLL(str(pathlib.Path(sys.argv[2]).resolve()))
 VECTORS = pathlib.Path(__file__).parent / "vectors"
+MOST = 65536
 
 
 def line(key, run):
+    """What the program prints; None is a missing file."""
     with tempfile.TemporaryDirectory() as folder:
         for name, data in (("key", key), ("run", run)):
             if data is not None:
                 (pathlib.Path(folder) / name).write_bytes(data)
-        return subprocess.run([PROGRAM], cwd=folder, capture_output=True, text=True, check=True).stdout
+        done = subprocess.run([PROGRAM], cwd=folder, capture_output=True, text=True)
+        return done.stdout if done.returncode == 0 else f"status {done.returncode}"
 
 
 def said(number):
     return "accepted\n" if number == 0 else f"refused {number}\n"
 
 
+def lists(*data):
+    return [x for d in data for x in (d, ctypes.c_size_t(len(d)))]
+
+
+def verdict(key, run):
+    """The second implementation's, on the first 65536 bytes of both."""
+    return LIBRARY.ref_judge(*lists((key or b"")[:MOST], (run or b"")[:MOST]))
+
+
+def message(number, *inputs):
+    call, out = getattr(LIBRARY, f"ref_message_{number}"), ctypes.create_string_buffer(MOST)
+    call.restype = ctypes.c_int64
+    length = call(*lists(*inputs), out, ctypes.c_size_t(MOST), ctypes.c_uint64(0))
+    if length < 0:
+        raise ValueError(f"message {number} is refused with {-length}")
+    return out.raw[:length]
+
+
+def file_of(parts):
+    head = [x for p in range(7) for x in (56 + sum(map(len, parts[:p])), len(parts[p]))]
+    return struct.pack("<14I", *head) + b"".join(parts)
+
+
+def largest():
+    """The largest key and its longest transcript: one execution opened, party N hidden nowhere."""
+    rng, (q, n, m, N, M) = random.Random("largest"), (2147483647, 32, 128, 32, 32)
+    A, secret = [[rng.randrange(q) for _ in range(m)] for _ in range(n)], rng.choices((0, 1), k=m)
+    t = [sum(x for x, s in zip(row, secret) if s) % q for row in A]
+    key = struct.pack(f"<{6 + n * (m + 1)}I", q, n, m, N, M, 1, *(x for row in A for x in row), *t)
+    seeds, K, L, E = rng.randbytes(16 * M), rng.randbytes(16), rng.randbytes(16), bytes([M // 2])
+    hidden, given = bytes(rng.randrange(1, N) for _ in range(M - 1)), (key, seeds, bytes(secret), E, K)
+    parts = [message(1, key, seeds), E, message(3, *given), L, message(5, *given, L), hidden, message(7, *given, L, hidden)]
+    return key, file_of(parts)
+
+
+def filled(run, end):
+    """The transcript with part 7 filled up to this place, and a head that says so."""
+    offset = struct.unpack_from("<I", run, 48)[0]
+    return run[:52] + struct.pack("<I", end - offset) + run[56:] + bytes(end - len(run))
+
+
 honest = [json.loads(x) for x in open(VECTORS / "prover.jsonl")]
 key, run = (bytes.fromhex(honest[0][x]) for x in ("key", "run"))
+large_key, large_run = largest()
 cases = [
     ("no files", None, None, 1),
-    ("an empty key", b"", run, 1),
+    ("no key", None, run, 1),
     ("no run", key, None, 12),
+    ("two empty files", b"", b"", 1),
+    ("an empty key", b"", run, 1),
+    ("an empty key and no run", b"", None, 1),
+    ("an empty run", key, b"", 12),
     ("an honest run", key, run, 0),
     ("a byte more", key, run + b"\0", 12),
-    ("a file past 65536 bytes", key, run + bytes(65536), 12),
-    ("a key past 65536 bytes", key + bytes(65536), run, 4),
+    ("a byte less", key, run[:-1], 12),
     ("another hash", key, run[:56] + bytes([run[56] ^ 1]) + run[57:], 17),
+    ("the run past 65536 bytes", key, run + bytes(MOST), 12),
+    ("the key past 65536 bytes", key + bytes(MOST), run, 4),
+    ("the largest key and its longest run", large_key, large_run, 0),
+    ("the last number of the longest run changed", large_key, large_run[:-4] + bytes([large_run[-4] ^ 1]) + large_run[-3:], 16),
+    ("a byte more than the longest run", large_key, large_run + b"\0", 12),
+    ("a byte more than the largest key", large_key + b"\0", large_run, 4),
+    ("the last entry of the largest key is q", large_key[:-4] + large_key[:4], large_run, 5),
+    # Part 7 is too long, and the head says so: 13 if all that it counts is read, and no more.
+    ("a run of 65535 bytes", key, filled(run, MOST - 1), 13),
+    ("a run of 65536 bytes", key, filled(run, MOST), 13),
+    ("a run of 65537 bytes, the last past its end", key, filled(run, MOST) + b"\0", 13),
+    ("a run of 131072 bytes, half of them past its end", key, filled(run, MOST) + bytes(MOST), 13),
+    ("a run of 65537 bytes with a right end", key, filled(run, MOST + 1), 12),
+    ("the longest run filled to 65537 bytes, the last past its end", large_key, filled(large_run, MOST) + b"\0", 13),
+    ("a key of 65536 bytes", large_key + bytes(MOST - len(large_key)), large_run, 4),
+    ("a key of 65537 bytes", large_key + bytes(MOST + 1 - len(large_key)), large_run, 4),
 ]
 seen = set()
 for x in open(VECTORS / "judge.jsonl"):
@@ -40,8 +113,13 @@ for x in open(VECTORS / "judge.jsonl"):
     if v["expect"] not in seen:
         seen.add(v["expect"])
         cases.append((v["id"], bytes.fromhex(v["key"]), bytes.fromhex(v["run"]), v["expect"]))
-wrong = [name for name, k, r, number in cases if line(k, r) != said(number)]
-for name in wrong:
-    print("different:", name)
-print(f"program: {len(cases) - len(wrong)} passed, {len(wrong)} failed")
+wrong = [] if len(large_run) == 52436 else [f"the longest run has {len(large_run)} bytes"]
+for name, k, r, number in cases:
+    if verdict(k, r) != number:
+        wrong.append(f"{name}: the second implementation says {verdict(k, r)}, not {number}")
+    if line(k, r) != said(number):
+        wrong.append(f"{name}: {line(k, r)!r}, not {said(number)!r}")
+for what in wrong:
+    print("different:", what)
+print(f"program: {len(cases)} cases, {len(wrong)} different")
 sys.exit(1 if wrong else 0)
