@@ -42,19 +42,6 @@ fn alpha(
     numbers::sub_mod(work[s], work[b], q)
 }
 
-// A number of Π's list: its column and its party.
-struct Entry {
-    k: usize,
-    i: usize,
-}
-
-// Number `place` of a line of Π's list. Each column has a line, in which each party has a number: i runs fastest.
-fn entry_at(line: usize, place: usize) -> Entry
-    ensures { λ r. ⌜ (r .k ≡ line) × (r .i ≡ place) ⌝ }
-{
-    Entry { k: line, i: place }
-}
-
 // α(k, 1) .. α(k, N), then zeros.
 pub fn alpha_row(
     q: u32,
@@ -74,8 +61,7 @@ pub fn alpha_row(
 {
     let mut row = [0u32; 32];
     for i in 0..parties {
-        let e = entry_at(k, i);
-        let a = alpha(q, m, parties, hidden, e.k, e.i, given, work);
+        let a = alpha(q, m, parties, hidden, k, i, given, work);
         row[i] = a;
     }
     row

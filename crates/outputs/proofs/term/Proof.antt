@@ -1,4 +1,4 @@
--- `term`: products of a 32-bit number with numbers below q fit 64 bits. Assumes nothing.
+-- `term`: products of a 32-bit number with numbers below q fit 64 bits. The equation comes first, so that a wrong formula meets it first. Assumes nothing.
 use borrow.Author.Needs.{needs}
 use native.Mathlib.Omega.{arith}
 use Prim.Native.Nat.{_+_, _*_, _≤_}
@@ -6,6 +6,9 @@ use Rattle.numbers.specs.Inverse.{q-most}
 use Rattle.outputs.proofs.Laws.{room, room-sum, term-done}
 use Rattle.outputs.proofs.term.Statement.{statement}
 use Rattle.outputs.proofs.term.Tie as tie
+
+returns : tie.Need-returns
+returns c = term-done _ _ _ _ _ (c .before .pre .1 .0) (c .reduced .ensures)
 
 inner : (c : tie.Start) → c .args .a * (c .args .s + c .args .b) ≤ 18446744052234715140
 inner c = room-sum (c .pre .0) (search needs) (c .pre .1 .0) (c .pre .1 .1)
@@ -48,9 +51,6 @@ mul-result-2 c = omega (arith, squared c)
 
 add-result : tie.Need-add-result
 add-result c = omega (arith, weighted (c .before), squared c)
-
-returns : tie.Need-returns
-returns c = term-done _ _ _ _ _ (c .before .pre .1 .0) (c .reduced .ensures)
 
 pub term-spec : {M : Type 1} → statement M
 term-spec =

@@ -1,5 +1,5 @@
--- `answers::alpha_row` meets its contract. Invariant: the first i entries are those of the parties below i, the others are 0. Assumes nothing.
-use mathlib.Core.Path.{_≡_, refl, _∙_, ap₂}
+-- `answers::alpha_row` meets its contract. Invariant: the first i entries are those of the parties below i, the others are 0. The equation comes before the ranges, so that another order meets it first. Assumes nothing.
+use mathlib.Core.Path.{_≡_, refl}
 use mathlib.Core.List.{_++_}
 use Prim.Native.Nat.{_≤_, _-_}
 use native.Mathlib.Omega.{arith}
@@ -22,14 +22,8 @@ loop-holds : tie.Need-loop-holds Inv-loop μ-loop
 unfolding tab
 loop-holds c = (search needs, refl)
 
-entry-at-requires : tie.Need-entry-at-requires Inv-loop μ-loop
-entry-at-requires c κs = search needs
-
-alpha-requires : tie.Need-alpha-requires Inv-loop μ-loop
-alpha-requires c κs =
-    let p = c .before .before .before .before .before .pre in
-    let e = c .entry-at .ensures in
-    (p .0, (p .1 .0, ((omega (arith, e .0, p .1 .1 .0), omega (arith, e .1, c .before .loop-test .taken)), (p .1 .1 .1 .0, p .1 .1 .1 .1))))
+loop-again : tie.Need-loop-again Inv-loop μ-loop
+loop-again c = (search needs, stored _ _ _ _ _ (search needs) (c .before .before .loop .inv .1) (c .alpha .ensures))
 
 mul-row : tie.Need-mul-row Inv-loop μ-loop
 mul-row c = search needs
@@ -43,12 +37,10 @@ add-i c = search needs
 loop-less : tie.Need-loop-less Inv-loop μ-loop
 loop-less c = search needs
 
-loop-again : tie.Need-loop-again Inv-loop μ-loop
-loop-again c =
-    let l = c .before .before .before .loop in
-    let a = c .before .before .before .before .before .before .args in
-    let e = c .before .entry-at .ensures in
-    (search needs, stored _ _ _ _ _ (search needs) (l .inv .1) (c .alpha .ensures ∙ ap₂ (alphaAt (a .q) (a .m) (a .hidden) (a .given .now) (a .work .now)) (e .0) (e .1)))
+alpha-requires : tie.Need-alpha-requires Inv-loop μ-loop
+alpha-requires c κs =
+    let p = c .before .before .before .before .pre in
+    (p .0, (p .1 .0, ((p .1 .1 .0, c .loop-test .taken), (p .1 .1 .1 .0, p .1 .1 .1 .1))))
 
 returns : tie.Need-returns Inv-loop μ-loop
 returns c =
@@ -62,7 +54,6 @@ alpha-row-spec =
     Inv-loop
     μ-loop
     loop-holds
-    entry-at-requires
     alpha-requires
     mul-row
     array-write-row
