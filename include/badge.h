@@ -4,7 +4,7 @@
  * the transcript that is put together from them (level 2), and an auditor reads two transcripts (level 3).
  *
  * A call is a function of its inputs: it allocates nothing, keeps nothing and writes only what is said here. It can run on several
- * threads at once, each with its own outputs.
+ * threads at once, each with its own outputs and lent lists.
  *
  * Lists. A list is a pointer and then its length, in bytes for uint8_t and in numbers for uint32_t. With length 0 the pointer may be
  * null. Inputs may be of any length and hold anything: what is wrong with them is a number that the call answers.
@@ -26,7 +26,7 @@
  * What the caller owes, since C cannot be held to it:
  *    each pointer is valid for its length, those of uint32_t lists aligned for uint32_t;
  *    no output or lent list overlaps another list of the call;
- *    the stack has the room that BADGE_STACK and its like name below (measured, not proved).
+ *    the stack has room for the call: BADGE_STACK and its like below are what was measured, not proved.
  *
  * Before you open a door on a verdict: an accepted transcript alone proves nothing. Its challenges stand in it, and anyone can write an
  * accepted transcript for any key that is read. The controller itself must choose E, L and the hidden list, each after the message before
@@ -60,6 +60,7 @@ enum badge_refusal {
     BADGE_SECRET_ENTRY = 8,    /* a secret entry isn't 0 or 1 */
     BADGE_SECRET_IMAGE = 9,    /* A s isn't t */
     BADGE_HIDDEN_LIST = 10,    /* the hidden list isn't M - tau values in 1..N */
+    /* Lent outputs and work lists. */
     BADGE_ROOM = 11,           /* a lent output or work list is too short, or the place is past the output's end */
     /* A transcript. */
     BADGE_HEADER = 12,         /* the first six pairs, or any offset, or the file's end is wrong */
@@ -89,7 +90,8 @@ enum {
     BADGE_ANSWER = 8           /* numbers of the pair reader's answer */
 };
 
-/* Bytes of stack that a call takes at the most, measured on x86-64 by `make stack`. */
+/* Bytes of stack. `make stack` measured no more on x86-64 with the largest q, n, m, N and M: the four messages, a transcript accepted and
+ * one refused with 17, a pair with finding 2. Other inputs were not measured, and nothing is proved. */
 enum {
     BADGE_STACK = 94000,          /* a message, the judge */
     BADGE_STACK_LENT = 12000,     /* the same with lent lists */
@@ -110,7 +112,7 @@ enum {
  *    L       the controller's second challenge: 16 bytes                                           6
  *    hidden  the controller's third challenge: M - tau parties, one for each kept execution        10
  *    out     the output                                                                            11
- *    place   where the message starts in out
+ *    place   where the message starts in out, at most out's length                                  11
  *
  * The numbers are tried in rising order, over the inputs that the call takes. The messages of a run take the same key, seeds, secret, E,
  * K and L. Seeds and K must be new for every run, unpredictable, and kept from everyone: the library chooses no randomness.

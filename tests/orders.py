@@ -1,7 +1,7 @@
 """Vectors for the order of the refusals, and for tests that stand alone: `make_vectors.py --orders` writes them.
 
 In document 01's table the first number that applies is given. For each two neighbours of an order there is a vector to which both
-apply: whoever tests in another order turns two neighbours round, and gives the second number there. For each part that a test
+apply (for the key's own numbers in the files of judge and pair reader): whoever tests in another order turns two neighbours round, and gives the second number there. For each part that a test
 compares there is a vector that differs in this part alone."""
 import random
 

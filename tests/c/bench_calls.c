@@ -166,8 +166,6 @@ static int stacks(void)
     printf("stack, bytes                   own lists   lent lists\n");
     for (int j = 0; j < JOBS; j++) {
         size_t own, lent;
-        if (j == REFUSED)
-            continue;
         own = changed((enum job)j, NULL) - none;
         lent = changed((enum job)j, &lists) - none;
         printf("  %-26s %11zu  %11zu\n", names[j], own, lent);

@@ -10,7 +10,7 @@ ghost use Rattle.protocol.specs.Shares.{input};
 ghost use Rattle.execution.specs.Begun.{Begun};
 use sha::Sha;
 
-// A running hash that has the label of an input of this kind.
+// A running hash for an input of this kind. Nothing is fed yet, as `input` puts nothing in front.
 pub fn begin(kind: u32, execution: usize, party: usize) -> Sha
     ensures { λ r. ⌜ Begun kind execution party r ⌝ }
 {

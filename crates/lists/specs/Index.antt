@@ -1,4 +1,5 @@
--- Lists and tests by index: what the definitions of the protocol are built of. Each recurses at its last index, as a loop does.
+-- Lists and tests by index: what the definitions of the protocol are built of. Those that take a count
+-- recurse at the last index, as a loop does.
 -- Assumes nothing.
 use Prim.Native.Nat.{ℕ, zero, suc, _+_}
 use mathlib.Core.Bool.{Bool, true, false}

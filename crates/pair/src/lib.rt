@@ -1,5 +1,5 @@
 // The pair reader (document 01, Pair reader, level 3): what must lie behind two transcripts.
 
-pub mod place;
+mod place;
 pub mod reader;
-pub mod sides;
+mod sides;

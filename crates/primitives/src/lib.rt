@@ -1,5 +1,5 @@
-// SHA-256, AES-128 and the streams of a seed as C functions: what the tests and the benchmark call. None has a precondition beyond
-// valid pointers.
+// SHA-256, AES-128 and the streams of a seed as C functions: what the tests and the benchmark call. None has a
+// `requires`; the caller owes what premise P5 of docs/CLAIMS.md says.
 
 ghost use mathlib.Core.Path.{_≡_};
 ghost use lib.ListN.{length};

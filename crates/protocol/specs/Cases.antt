@@ -14,7 +14,7 @@ use Rattle.numbers.specs.Inverse.{inverseOf}
 use Rattle.streams.specs.Streams.{word64}
 use Rattle.case_seeds.specs.Seeds.{seed₁, seed₂, seed-L}
 use Rattle.tree.specs.Tree.{left, right, opening}
-use Rattle.protocol.specs.Key.{Key, keyOf, keyChecks}
+use Rattle.protocol.specs.Key.{Key, depth, keyOf, keyChecks}
 use Rattle.protocol.specs.Shares.{View, s, b, d, αsum, o}
 use Rattle.protocol.specs.Prover.{checks3}
 use Rattle.protocol.specs.Transcript.{Parts, partsOf, goodHeader, transcript}
@@ -110,7 +110,7 @@ cases root =
           word64 (replicate 8 255) 0 % 257 ∷ word64 (replicate 8 255) 0 % 65537 ∷ word64 (replicate 8 255) 0 % 2147483647 ∷ [];
       said = 0 ∷ 0 ∷ 3 ∷ [];
     }
-    ∷ record { given = opening 3 root 2; said = left (left root) ++ right (right (left root)) ++ right root }
+    ∷ record { given = opening (depth (keyCase 1 2 8 2 1)) root 2; said = left (left root) ++ right (right (left root)) ++ right root }
     ∷ record {
       given =
           verdictsE (1 ∷ 3 ∷ []) ++ verdictsE (3 ∷ 1 ∷ []) ++ verdictsE (2 ∷ 2 ∷ []) ++ verdictsE (0 ∷ 1 ∷ []) ++ verdictsE (1 ∷ 5 ∷ []);

@@ -23,7 +23,7 @@ pub record Comparison : Type 0 where
   pub one : List ℕ
   pub two : List ℕ
 
--- What the pair reader answers. Executions and columns count from 1 here.
+-- What the pair reader answers. Executions, parties and columns count from 1 here; the party is 0 where there is none.
 pub data Reading : Type 0 where
   refusal : ℕ → Reading
   collision : ℕ → ℕ → ℕ → List ℕ → List ℕ → Reading

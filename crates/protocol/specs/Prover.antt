@@ -91,10 +91,11 @@ goodHidden K hidden =
     ∷ every (length hidden) (λ j. leb (getD hidden j 0) (K .N))
     ∷ [])
 
--- A·x = t modulo q, and every entry of x is 0 or 1
+-- A·x = t modulo q
 unfoldable pub solves : Key → (ℕ → ℕ) → Bool
 solves K x = every (K .n) (λ l. eqb (sum (K .m) (λ k. A K l k * x k) % K .q) (t K l))
 
+-- every entry of x is 0 or 1
 unfoldable pub binary : Key → (ℕ → ℕ) → Bool
 binary K x = every (K .m) (λ k. leb (x k) 1)
 

@@ -26,7 +26,7 @@ pub fn demand_3()
     ensures { λ _. ⌜ ((key x y : List ℕ) (l : Lengths) → Demand3 key l x y) ⌝ }
 {}
 
-// Demand 3 is not empty: two of the prover's own transcripts of one run, with two hidden lists, fork.
+// Demand 3 is not empty: two of the prover's own transcripts of one run, with two hidden lists that differ, fork.
 pub fn honest_transcripts_fork()
     ensures { λ _. ⌜ ((key seeds secret E κ L hidden₁ hidden₂ : List ℕ)
         → first (keyChecks (keyOf key) key ++ checks7 (keyOf key) seeds secret E κ L hidden₁) ≡ accepted
@@ -35,7 +35,8 @@ pub fn honest_transcripts_fork()
         → Forked key (transcript (honestParts (keyOf key) seeds secret E κ L hidden₁)) (transcript (honestParts (keyOf key) seeds secret E κ L hidden₂))) ⌝ }
 {}
 
-// Two of the prover's own transcripts of one run, with two hidden lists, give the pair reader finding 2, and the secret is the badge's own.
+// Two of the prover's own transcripts of one run, with two hidden lists that differ, give the pair reader finding 2, if the lent lists are
+// long enough, and the secret is the badge's own.
 pub fn honest_pair_gives_the_secret()
     ensures { λ _. ⌜ ((key seeds bits E κ L hidden₁ hidden₂ : List ℕ) (l : Lengths)
         → LongEnough key l

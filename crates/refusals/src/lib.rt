@@ -1,4 +1,5 @@
-// The numbers that a refusal returns, in the order of document 01's table "Where each number is given". 0 stands for none.
+// The numbers that a refusal returns, in rising order; document 01's table "Where each number is given" has the order in which they are
+// tried. 0 stands for none.
 
 // The key, first in every call.
 // Under 24 bytes.
