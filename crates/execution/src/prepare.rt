@@ -122,7 +122,7 @@ pub fn reopen_kept(
     requires { ⌜ Limits q m parties ⌝ }
     requires { ⌜ 2 ^ depth ≡ parties ⌝ }
     requires { ⌜ hidden < parties ⌝ }
-    requires { ⌜ 16 * depth + 32 + 4 * (m + 1 + lastCount m parties hidden) ≤ length (now reply) ⌝ }
+    requires { ⌜ length (now reply) ≡ 16 * depth + 32 + 4 * (m + 1 + lastCount m parties hidden) ⌝ }
     requires { ⌜ Given q m parties depth hidden (now reply) ⌝ }
     requires { ⌜ length (now leaves) ≡ 16 * parties ⌝ }
     requires { ⌜ 3 * m * parties ≤ length (now work) ⌝ }

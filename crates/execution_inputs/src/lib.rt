@@ -2,7 +2,7 @@
 
 ghost use mathlib.Core.Path.{_≡_};
 ghost use mathlib.Core.List.{_++_};
-ghost use Prim.Native.Nat.{_+_, _*_, _-_, _%_, _<_, _≤_};
+ghost use Prim.Native.Nat.{_+_, _*_, _-_, _^_, _%_, _<_, _≤_};
 ghost use lib.ListN.{length, drop};
 ghost use Rattle.lists.specs.Index.{cat, part};
 ghost use Rattle.lists.specs.Tab.{tab};
@@ -16,7 +16,7 @@ ghost use Rattle.protocol.specs.Transcript.{Parts};
 ghost use Rattle.protocol.specs.Judge.{κ, keptView};
 ghost use Rattle.execution.specs.Shown.{Limits};
 ghost use Rattle.execution.specs.Lists.{alphaAt, Reduced};
-ghost use Rattle.execution.specs.Prepared.{Kept};
+ghost use Rattle.execution.specs.Prepared.{Kept, lastCount};
 ghost use Rattle.views.specs.Seen.{Bounded, gammaAt};
 ghost use Rattle.outputs.specs.Stated.{Stated};
 ghost use Rattle.kept.specs.Kept.{Shared, KeptIn};
@@ -332,7 +332,8 @@ pub fn write(
     requires { ⌜ Member parties Ns ⌝ }
     requires { ⌜ n ≤ 32 ⌝ }
     requires { ⌜ execution < 32 ⌝ }
-    requires { ⌜ 16 * depth + 32 + 4 * (m + 1) ≤ length (now reply) ⌝ }
+    requires { ⌜ 2 ^ depth ≡ parties ⌝ }
+    requires { ⌜ length (now reply) ≡ 16 * depth + 32 + 4 * (m + 1 + lastCount m parties hidden) ⌝ }
     requires { ⌜ length (now kappa) ≡ 16 ⌝ }
     requires { ⌜ length (now seed) ≡ 16 ⌝ }
     requires { ⌜ n * (m + 1) ≤ length (now entries) ⌝ }

@@ -196,7 +196,7 @@ pub fn kept_execution(
     requires { ⌜ execution < 32 ⌝ }
     requires { ⌜ 2 ^ depth ≡ parties ⌝ }
     requires { ⌜ hidden < parties ⌝ }
-    requires { ⌜ 16 * depth + 32 + 4 * (m + 1 + lastCount m parties hidden) ≤ length (now reply) ⌝ }
+    requires { ⌜ length (now reply) ≡ 16 * depth + 32 + 4 * (m + 1 + lastCount m parties hidden) ⌝ }
     requires { ⌜ Given q m parties depth hidden (now reply) ⌝ }
     requires { ⌜ length (now kappa) ≡ 16 ⌝ }
     requires { ⌜ length (now seed) ≡ 16 ⌝ }

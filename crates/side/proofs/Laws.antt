@@ -161,7 +161,7 @@ module _ {k : Numbers} {entries x : List ℕ} {e hid : ℕ} (so : Sound k entrie
       deep : depth K ≡ D
       deep = sym (d .is K refl)
 
-      pub reply-long : 16 * D + 32 + 4 * (k .m + 1 + lastCount (k .m) (k .parties) hid) ≤ length (take (at + size - at) (drop at x))
+      pub reply-long : length (take (at + size - at) (drop at x)) ≡ 16 * D + 32 + 4 * (k .m + 1 + lastCount (k .m) (k .parties) hid)
       reply-long =
           let w : size ≡ 16 * D + 32 + 4 * (k .m + 1 + lastCount (k .m) (k .parties) hid) =
           wide ∙ (size-kept K P e (so .kept) ∙ ap₂ (λ (a b : ℕ). 16 * a + 32 + 4 * b) deep (given-count K P e sized (so .hides))) in

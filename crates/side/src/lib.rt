@@ -70,7 +70,7 @@ fn fill_side(
     requires { ⌜ Depth (k .parties) depth ⌝ }
     requires { ⌜ hidden < k .parties ⌝ }
     requires { ⌜ e < 32 ⌝ }
-    requires { ⌜ 16 * depth + 32 + 4 * (k .m + 1 + lastCount (k .m) (k .parties) hidden) ≤ length (now reply) ⌝ }
+    requires { ⌜ length (now reply) ≡ 16 * depth + 32 + 4 * (k .m + 1 + lastCount (k .m) (k .parties) hidden) ⌝ }
     requires { ⌜ Given (k .q) (k .m) (k .parties) depth hidden (now reply) ⌝ }
     requires { ⌜ length (now kappa) ≡ 16 ⌝ }
     requires { ⌜ length (now seed) ≡ 16 ⌝ }
@@ -119,7 +119,7 @@ fn open_reply(
     requires { ⌜ Depth (k .parties) depth ⌝ }
     requires { ⌜ hidden < k .parties ⌝ }
     requires { ⌜ e < 32 ⌝ }
-    requires { ⌜ 16 * depth + 32 + 4 * (k .m + 1 + lastCount (k .m) (k .parties) hidden) ≤ length (now reply) ⌝ }
+    requires { ⌜ length (now reply) ≡ 16 * depth + 32 + 4 * (k .m + 1 + lastCount (k .m) (k .parties) hidden) ⌝ }
     requires { ⌜ Given (k .q) (k .m) (k .parties) depth hidden (now reply) ⌝ }
     requires { ⌜ length (now kappa) ≡ 16 ⌝ }
     requires { ⌜ length (now seed) ≡ 16 ⌝ }

@@ -159,7 +159,7 @@ module _ {q n m N M τ D : ℕ} {entries p2 p3 p4 p6 p7 : List ℕ} {K : Key} {P
               let w : replySize K P e ≡ end - at = omega (arith, size-is) in
               ap₂ (λ (x : List ℕ) (y : ℕ). part x y (replySize K P e)) (so .seventh) (here .at-is) ∙ ap (λ (x : ℕ). take x (drop at p7)) w
 
-          pub reply-long : 16 * D + 32 + 4 * (m + 1 + lastCount m N hid) ≤ length (take (end - at) (drop at p7))
+          pub reply-long : length (take (end - at) (drop at p7)) ≡ 16 * D + 32 + 4 * (m + 1 + lastCount m N hid)
           reply-long = omega (arith, part-length p7 at (end - at) (omega (arith, end-inside)), ends)
 
           pub given-is : Given q m N D hid (take (end - at) (drop at p7))

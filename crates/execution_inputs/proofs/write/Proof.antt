@@ -42,13 +42,13 @@ slice-relend-prefix-front-inputs : tie.Need-slice-relend-prefix-front-inputs
 slice-relend-prefix-front-inputs c = search needs
 
 slice-aggregate-front-inputs : tie.Need-slice-aggregate-front-inputs
-slice-aggregate-front-inputs c = sym (length-take-le (64 * c .before .before .before .before .before .before .before .before .before .args .parties + 4 * c .before .before .before .before .before .before .before .before .before .args .m) (c .before .before .before .before .before .before .before .before .before .args .out .now) (omega (arith, c .before .before .before .before .before .before .before .before .before .pre .1 .1 .1 .1 .1 .1 .1 .1 .1 .1 .1 .1)))
+slice-aggregate-front-inputs c = sym (length-take-le (64 * c .before .before .before .before .before .before .before .before .before .args .parties + 4 * c .before .before .before .before .before .before .before .before .before .args .m) (c .before .before .before .before .before .before .before .before .before .args .out .now) (omega (arith, c .before .before .before .before .before .before .before .before .before .pre .1 .1 .1 .1 .1 .1 .1 .1 .1 .1 .1 .1 .1)))
 
 front-inputs-requires : tie.Need-front-inputs-requires
 front-inputs-requires c κs =
     let a = c .before .before .before .before .before .before .before .before .before .args in
     let p = c .before .before .before .before .before .before .before .before .before .pre in
-    (bounded (p .0) (p .1 .1 .1 .0), (within (a .reply .now) (16 * a .depth) 32 (omega (arith, p .1 .1 .1 .1 .0)), (p .1 .1 .1 .1 .1 .1 .1 .1 .0, (p .1 .1 .1 .1 .1 .1 .1 .1 .1 .0, length-take-le (64 * a .parties + 4 * a .m) (a .out .now) (omega (arith, p .1 .1 .1 .1 .1 .1 .1 .1 .1 .1 .1 .1))))))
+    (bounded (p .0) (p .1 .1 .1 .0), (within (a .reply .now) (16 * a .depth) 32 (omega (arith, p .1 .1 .1 .1 .1 .0)), (p .1 .1 .1 .1 .1 .1 .1 .1 .1 .0, (p .1 .1 .1 .1 .1 .1 .1 .1 .1 .1 .0, length-take-le (64 * a .parties + 4 * a .m) (a .out .now) (omega (arith, p .1 .1 .1 .1 .1 .1 .1 .1 .1 .1 .1 .1 .1))))))
 
 sub-later-inputs : tie.Need-sub-later-inputs
 sub-later-inputs c = search needs
@@ -73,7 +73,7 @@ later-inputs-requires c κs =
     let a = c .before .before .before .before .before .before .before .before .before .before .before .before .before .before .args in
     let p = c .before .before .before .before .before .before .before .before .before .before .before .before .before .before .pre in
     let n = c .before .before .before .before .front-inputs in
-    (p .0, (p .1 .0, (p .1 .1 .0, (p .1 .1 .1 .0, (rest-long (a .reply .now) (16 * a .depth + 32) (4 * a .m + 4) (omega (arith, p .1 .1 .1 .1 .0)), (p .1 .1 .1 .1 .1 .0, (p .1 .1 .1 .1 .1 .1 .0, (p .1 .1 .1 .1 .1 .1 .1 .0, (p .1 .1 .1 .1 .1 .1 .1 .1 .0, (p .1 .1 .1 .1 .1 .1 .1 .1 .1 .0, (p .1 .1 .1 .1 .1 .1 .1 .1 .1 .1 .0, later-part (a .out .now) (n .last .1 .1 .1 .1 .1 .1 .1 .0) (64 * a .parties + 4 * a .m) (n .kept .1 .1 .1 .1 .1 .1 .1 .0 ∙ length-take-le (64 * a .parties + 4 * a .m) (a .out .now) (omega (arith, p .1 .1 .1 .1 .1 .1 .1 .1 .1 .1 .1 .1))) ∙ omega (arith, p .1 .1 .1 .1 .1 .1 .1 .1 .1 .1 .1 .1))))))))))))
+    (p .0, (p .1 .0, (p .1 .1 .0, (p .1 .1 .1 .0, (rest-long (a .reply .now) (16 * a .depth + 32) (4 * a .m + 4) (omega (arith, p .1 .1 .1 .1 .1 .0)), (p .1 .1 .1 .1 .1 .1 .0, (p .1 .1 .1 .1 .1 .1 .1 .0, (p .1 .1 .1 .1 .1 .1 .1 .1 .0, (p .1 .1 .1 .1 .1 .1 .1 .1 .1 .0, (p .1 .1 .1 .1 .1 .1 .1 .1 .1 .1 .0, (p .1 .1 .1 .1 .1 .1 .1 .1 .1 .1 .1 .0, later-part (a .out .now) (n .last .1 .1 .1 .1 .1 .1 .1 .0) (64 * a .parties + 4 * a .m) (n .kept .1 .1 .1 .1 .1 .1 .1 .0 ∙ length-take-le (64 * a .parties + 4 * a .m) (a .out .now) (omega (arith, p .1 .1 .1 .1 .1 .1 .1 .1 .1 .1 .1 .1 .1))) ∙ omega (arith, p .1 .1 .1 .1 .1 .1 .1 .1 .1 .1 .1 .1 .1))))))))))))
 
 same-length : tie.Need-same-length
 same-length c = search needs
@@ -84,18 +84,18 @@ returns c =
     let p = c .before .before .before .before .before .before .before .before .before .before .before .before .before .before .before .before .before .pre in
     let n = c .before .before .before .before .before .before .before .front-inputs in (
       λ K P so.
-          let S : Shown K (keptView K P (a .execution)) (a .leaves .now) (a .work .now) = p .1 .1 .1 .1 .1 .1 .1 .1 .1 .1 .1 .0 .shown K P (a .execution) (so .sized) (so .deep) (so .hides) (so .at) in
+          let S : Shown K (keptView K P (a .execution)) (a .leaves .now) (a .work .now) = p .1 .1 .1 .1 .1 .1 .1 .1 .1 .1 .1 .1 .0 .shown K P (a .execution) (so .sized) (so .deep) (so .hides) (so .at) in
           let some : 1 ≤ a .parties = omega (arith, p .0 .N-least) in
-          written so S some (p .1 .1 .1 .1 .1 .1 .1 .1 .0) (p .1 .1 .1 .1 .1 .1 .1 .1 .1 .0) (omega (arith, p .1 .1 .1 .1 .0))
-          (parts-joined (a .out .now) (n .last .1 .1 .1 .1 .1 .1 .1 .0) _ (64 * a .parties + 4 * a .m) (n .kept .1 .1 .1 .1 .1 .1 .1 .0 ∙ length-take-le (64 * a .parties + 4 * a .m) (a .out .now) (omega (arith, p .1 .1 .1 .1 .1 .1 .1 .1 .1 .1 .1 .1))) (n .ensures)
+          written so S some (p .1 .1 .1 .1 .1 .1 .1 .1 .1 .0) (p .1 .1 .1 .1 .1 .1 .1 .1 .1 .1 .0) (omega (arith, p .1 .1 .1 .1 .1 .0))
+          (parts-joined (a .out .now) (n .last .1 .1 .1 .1 .1 .1 .1 .0) _ (64 * a .parties + 4 * a .m) (n .kept .1 .1 .1 .1 .1 .1 .1 .0 ∙ length-take-le (64 * a .parties + 4 * a .m) (a .out .now) (omega (arith, p .1 .1 .1 .1 .1 .1 .1 .1 .1 .1 .1 .1 .1))) (n .ensures)
           (c .before .before .later-inputs .ensures K _ (kept-shared so S some))),
       (
         search needs,
         λ K P so.
-            let S : Shown K (keptView K P (a .execution)) (a .leaves .now) (a .work .now) = p .1 .1 .1 .1 .1 .1 .1 .1 .1 .1 .1 .0 .shown K P (a .execution) (so .sized) (so .deep) (so .hides) (so .at) in
+            let S : Shown K (keptView K P (a .execution)) (a .leaves .now) (a .work .now) = p .1 .1 .1 .1 .1 .1 .1 .1 .1 .1 .1 .1 .0 .shown K P (a .execution) (so .sized) (so .deep) (so .hides) (so .at) in
             let some : 1 ≤ a .parties = omega (arith, p .0 .N-least) in
-            laid-out so S some (p .1 .1 .1 .1 .1 .1 .1 .1 .0) (p .1 .1 .1 .1 .1 .1 .1 .1 .1 .0) (omega (arith, p .1 .1 .1 .1 .0))
-            (parts-joined (a .out .now) (n .last .1 .1 .1 .1 .1 .1 .1 .0) _ (64 * a .parties + 4 * a .m) (n .kept .1 .1 .1 .1 .1 .1 .1 .0 ∙ length-take-le (64 * a .parties + 4 * a .m) (a .out .now) (omega (arith, p .1 .1 .1 .1 .1 .1 .1 .1 .1 .1 .1 .1))) (n .ensures)
+            laid-out so S some (p .1 .1 .1 .1 .1 .1 .1 .1 .1 .0) (p .1 .1 .1 .1 .1 .1 .1 .1 .1 .1 .0) (omega (arith, p .1 .1 .1 .1 .1 .0))
+            (parts-joined (a .out .now) (n .last .1 .1 .1 .1 .1 .1 .1 .0) _ (64 * a .parties + 4 * a .m) (n .kept .1 .1 .1 .1 .1 .1 .1 .0 ∙ length-take-le (64 * a .parties + 4 * a .m) (a .out .now) (omega (arith, p .1 .1 .1 .1 .1 .1 .1 .1 .1 .1 .1 .1 .1))) (n .ensures)
             (c .before .before .later-inputs .ensures K _ (kept-shared so S some))),
       ),
     )

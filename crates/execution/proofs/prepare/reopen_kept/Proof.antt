@@ -61,7 +61,7 @@ put-last-requires c κs =
       (
         p .1 .1 .0,
         (
-          rest-long (16 * a .depth + 32) (4 * (a .m + 1 + lastCount (a .m) (a .parties) (a .hidden))) (a .reply .now) (p .1 .1 .1 .0),
+          rest-long (16 * a .depth + 32) (4 * (a .m + 1 + lastCount (a .m) (a .parties) (a .hidden))) (a .reply .now) (omega (arith, p .1 .1 .1 .0)),
           rw (c .before .before .before .before .draw-shares .ensures .1) (search needs),
         ),
       ),
