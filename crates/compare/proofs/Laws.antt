@@ -320,6 +320,32 @@ module _ (m N M c h1 h2 : ℕ) (l1 l2 i1 i2 : List ℕ) where
   all-end a z b y d x g =
       more l1 l2 i1 i2 gH (gP ++ (gL ++ gR)) a z (more l1 l2 i1 i2 gP (gL ++ gR) b y (more l1 l2 i1 i2 gL gR d x g))
 
+-- ---- no spot of the pair reader's list has kind 0, which `nowhere` has
+abbrev Kinds : List Spot → Type 0
+Kinds [] = Unit {0}
+Kinds (r ∷ rs) = (1 ≤ r .kind) × Kinds rs
+
+kinds-append : (a b : List Spot) → Kinds a → Kinds b → Kinds (a ++ b)
+kinds-append [] b x y = y
+kinds-append (r ∷ a) b x y = (x .0, kinds-append a b (x .1) y)
+
+kinds-cat : (n : ℕ) (f : ℕ → List Spot) → ((i : ℕ) → Kinds (f i)) → Kinds (cat n f)
+unfolding cat
+kinds-cat zero f h = tt
+kinds-cat (suc n) f h = kinds-append (cat n f) (f n) (kinds-cat n f h) (h n)
+
+kinds-pick : (t : Bool) (r : Spot) → 1 ≤ r .kind → Kinds (pick t (r ∷ []) [])
+kinds-pick true r h = (h, tt)
+kinds-pick false r h = tt
+
+kinds-all : (m N M c h1 h2 : ℕ) → Kinds (onAll m N M c h1 h2)
+unfolding onAll onHashes onParty onLast onRest
+kinds-all m N M c h1 h2 =
+    kinds-append (onHashes M N) (cat N (onParty m N h1 h2) ++ (onLast m N h1 h2 ++ onRest m N M c)) (omega arith, (omega arith, tt))
+    (kinds-append (cat N (onParty m N h1 h2)) (onLast m N h1 h2 ++ onRest m N M c) (kinds-cat N (onParty m N h1 h2) (λ i. kinds-pick (openBoth h1 h2 i) _ (omega arith)))
+    (kinds-append (onLast m N h1 h2) (onRest m N M c) (kinds-pick (openBoth h1 h2 (N - 1)) _ (omega arith))
+    (omega arith, (omega arith, (omega arith, (omega arith, tt))))))
+
 -- ---- spots as comparisons
 module _ (l1 l2 i1 i2 : List ℕ) where
   unfoldable pub compared : List Spot → List Comparison
@@ -347,26 +373,23 @@ module _ (l1 l2 i1 i2 : List ℕ) where
       (compared-append (cat N (onParty m N h1 h2)) (onLast m N h1 h2 ++ onRest m N M c)
       ∙ ap₂ (λ (x y : List Comparison). x ++ y) (compared-cat N (onParty m N h1 h2)) (compared-append (onLast m N h1 h2) (onRest m N M c)))
 
-  pub reads-equal : (ss : List Spot) → Equal ss l1 l2 i1 i2 → (e : ℕ) (x : Reading) → firstDifferent e (compared ss) x ≡ x
-  unfolding compared firstDifferent
-  reads-equal [] h e x = refl
-  reads-equal (r ∷ ss) h e x = pick-true _ _ _ (h .0) ∙ reads-equal ss (h .1) e x
-
   -- what a spot's two inputs give
   abbrev reading : ℕ → Spot → Reading
   reading e r = collision (r .kind) e (r .party) (shown r l1 i1) (shown r l2 i2)
 
-  pub reads-first : (ss : List Spot) → (firstSpot ss l1 l2 i1 i2 .kind ≡ 0 → ⊥) → (e : ℕ) (x : Reading)
-      → firstDifferent e (compared ss) x ≡ reading e (firstSpot ss l1 l2 i1 i2)
+  -- the same, or else what follows
+  abbrev pub readAt : ℕ → Reading → Spot → Reading
+  readAt e x r = pick (eqb (r .kind) 0) x (reading e r)
+
+  reads-first : (ss : List Spot) → Kinds ss → (e : ℕ) (x : Reading) → firstDifferent e (compared ss) x ≡ readAt e x (firstSpot ss l1 l2 i1 i2)
   unfolding compared firstDifferent firstSpot
-  reads-first [] n e x = absurd (n refl)
-  reads-first (r ∷ ss) n e x = go (reads-first ss) (same (shown r l1 i1) (shown r l2 i2)) n
+  reads-first [] h e x = refl
+  reads-first (r ∷ ss) h e x = go (reads-first ss (h .1) e x) (same (shown r l1 i1) (shown r l2 i2))
     where
-      go : ((firstSpot ss l1 l2 i1 i2 .kind ≡ 0 → ⊥) → (e : ℕ) (x : Reading) → firstDifferent e (compared ss) x ≡ reading e (firstSpot ss l1 l2 i1 i2))
-          → (t : Bool) → ((pick t (firstSpot ss l1 l2 i1 i2) r) .kind ≡ 0 → ⊥)
-          → pick t (firstDifferent e (compared ss) x) (reading e r) ≡ reading e (pick t (firstSpot ss l1 l2 i1 i2) r)
-      go ih true n = ih n e x
-      go ih false n = refl
+      go : firstDifferent e (compared ss) x ≡ readAt e x (firstSpot ss l1 l2 i1 i2) → (t : Bool)
+          → pick t (firstDifferent e (compared ss) x) (reading e r) ≡ readAt e x (pick t (firstSpot ss l1 l2 i1 i2) r)
+      go ih true = ih
+      go ih false = sym (pick-false _ _ _ (ne-eqb (r .kind) 0 (λ z. let w : ⊥ = omega (arith, h .0) in w)))
 
 -- ---- the pair reader's list
 module _ (K : Key) (P R : Parts) (e h1 h2 : ℕ) (l1 l2 i1 i2 : List ℕ) (L1 : Listed K P l1) (L2 : Listed K R l2)
@@ -480,25 +503,28 @@ module _ (K : Key) (P R : Parts) (e h1 h2 : ℕ) (l1 l2 i1 i2 : List ℕ) (L1 : 
       Ψ-two : Ψin K (view K R e) (κ K R) (R .p4) ≡ part i2 (ΨFrom (K .m) (K .N)) (4 * K .N + 16)
       Ψ-two = ap (λ (v : View). Ψin K v (κ K R) (R .p4)) w-is ∙ sym (W2 .Ψ)
 
+  -- The list comes to what its first spot gives, or else to what follows.
+  pub first-read : 2 ≤ K .N → (x : Reading)
+      → firstDifferent (suc e) (comparisons K P R e) x
+      ≡ readAt l1 l2 i1 i2 (suc e) x (firstSpot (onAll (K .m) (K .N) (K .M) (keptCount K) h1 h2) l1 l2 i1 i2)
+  first-read two x =
+      ap (λ (a : List Comparison). firstDifferent (suc e) a x) (laid two)
+      ∙ reads-first l1 l2 i1 i2 (onAll (K .m) (K .N) (K .M) (keptCount K) h1 h2) (kinds-all (K .m) (K .N) (K .M) (keptCount K) h1 h2) (suc e) x
+
   pub spotted : (k : Numbers) → Limits k → Of k K → {r : Spot}
-      → Spots (onAll (k .m) (k .parties) (k .executions) (k .executions - k .opened) h1 h2) l1 l2 i1 i2 r
+      → r ≡ firstSpot (onAll (k .m) (k .parties) (k .executions) (k .executions - k .opened) h1 h2) l1 l2 i1 i2
       → Spotted K P R e r l1 l2 i1 i2
-  spotted k limits of {r} s =
+  spotted k limits of {r} is =
       record {
-        none = λ z x. ap (λ (a : List Comparison). firstDifferent (suc e) a x) is ∙ reads-equal l1 l2 i1 i2 all (s .equal z) (suc e) x;
-        some = λ n x.
-            ap (λ (a : List Comparison). firstDifferent (suc e) a x) is
-            ∙ subst (λ (q : Spot). firstDifferent (suc e) (compared l1 l2 i1 i2 all) x ≡ reading l1 l2 i1 i2 (suc e) q) (sym (s .is))
-            (reads-first l1 l2 i1 i2 all (λ z. n (ap (λ (q : Spot). q .kind) (s .is) ∙ z)) (suc e) x);
+        none = λ z x. at-spot x ∙ pick-true _ _ _ (eq-eqb (r .kind) 0 z);
+        some = λ n x. at-spot x ∙ pick-false _ _ _ (ne-eqb (r .kind) 0 n);
       }
     where
-      all : List Spot
-      all = onAll (k .m) (k .parties) (k .executions) (k .executions - k .opened) h1 h2
-
-      is : comparisons K P R e ≡ compared l1 l2 i1 i2 all
-      is =
-          laid (omega (arith, limits .N-least, of .N-is))
-          ∙ sym (λ j. compared l1 l2 i1 i2 (onAll (of .m-is j) (of .N-is j) (of .M-is j) (of .M-is j - of .τ-is j) h1 h2))
+      at-spot : (x : Reading) → firstDifferent (suc e) (comparisons K P R e) x ≡ readAt l1 l2 i1 i2 (suc e) x r
+      at-spot x =
+          first-read (omega (arith, limits .N-least, of .N-is)) x
+          ∙ ap (readAt l1 l2 i1 i2 (suc e) x)
+          (sym (is ∙ (λ j. firstSpot (onAll (of .m-is j) (of .N-is j) (of .M-is j) (of .M-is j - of .τ-is j) h1 h2) l1 l2 i1 i2)))
 
 -- The answers of the crate's function.
 pub answered : (k : Numbers) (h1 h2 : ℕ) (l1 l2 i1 i2 : List ℕ) → Limits k
@@ -510,7 +536,7 @@ pub answered : (k : Numbers) (h1 h2 : ℕ) (l1 l2 i1 i2 : List ℕ) → Limits k
     ) × (Inside (listsSize (k .executions) (k .executions - k .opened)) (executionSize (k .m) (k .parties)) r
     × (r ≡ firstSpot (onAll (k .m) (k .parties) (k .executions) (k .executions - k .opened) h1 h2) l1 l2 i1 i2))
 answered k h1 h2 l1 l2 i1 i2 limits long-l long-i {r} s = (
-  λ K P R e of L1 L2 W1 W2 hid1 hid2 kept1 kept2. spotted K P R e h1 h2 l1 l2 i1 i2 L1 L2 W1 W2 hid1 hid2 kept1 kept2 k limits of s,
+  λ K P R e of L1 L2 W1 W2 hid1 hid2 kept1 kept2. spotted K P R e h1 h2 l1 l2 i1 i2 L1 L2 W1 W2 hid1 hid2 kept1 kept2 k limits of (s .is),
   (
     record {
       within = subst (λ (n : ℕ). r .from + r .length ≤ n) (ap₂ (λ (a b : ℕ). pick (r .listed) a b) long-l long-i) (s .inside .within);

@@ -4,27 +4,28 @@ use Prim.Native.Nat.{ℕ, suc, _+_, _*_, _-_, _≤_}
 use mathlib.Core.Path.{_≡_, refl, sym, _∙_, ap, subst}
 use mathlib.Core.Bool.{Bool, true, false}
 use mathlib.Core.Logic.{⊎-elim}
-use mathlib.Core.List.{List, [], _∷_, _++_}
+use mathlib.Core.List.{List, _++_}
 use native.Mathlib.Numerals.{add-one}
 use native.Mathlib.Nat.{mul-le-mul}
 use native.Mathlib.Omega.{arith}
+use borrow.Author.Tests.{eq-eqb, ne-eqb}
 use lib.Dec.{ltb}
 use lib.ListN.{length, take, drop}
-use Rattle.lists.specs.Tab.{tab}
-use Rattle.lists.specs.Index.{pick, part, holds}
+use Rattle.lists.specs.Index.{pick, part}
 use Rattle.lists.specs.TestLaws.{decide, pick-true, pick-false}
 use Rattle.lists.specs.CatLaws.{part-length}
-use Rattle.protocol.specs.Key.{Key}
+use Rattle.protocol.specs.Key.{Key, keptCount}
 use Rattle.protocol.specs.Transcript.{Parts}
-use Rattle.protocol.specs.Shares.{s, b, d}
-use Rattle.protocol.specs.Prover.{solves, binary}
-use Rattle.protocol.specs.Pair.{Reading, refusal, collision, secret, square, errors, joined, wrongSquare, uv, values, foundAs, valueList, says}
+use Rattle.protocol.specs.Pair.{Reading, refusal, collision, secret, square, errors, firstDifferent, comparisons, values, foundAs, valueList}
 use Rattle.inputs.specs.Layout.{executionSize}
 use Rattle.compare.specs.declared.Spot.{Spot}
-use Rattle.compare.specs.Spots.{Inside, shown}
+use Rattle.compare.specs.Spots.{Inside, shown, firstSpot, onAll}
+use Rattle.compare.proofs.Laws.{readAt, first-read}
 use Rattle.reading.specs.declared.Reading as code
 use Rattle.reading.specs.declared.Reading.the-variants.{Collision}
-use Rattle.reading.specs.Answers.{means, hash1Of, hash2Of, bitsOf, errorsOf}
+use Rattle.reading.specs.Answers.{hash1Of, hash2Of}
+use Rattle.reading.specs.Found.{wrongAt, isSecret, found, Finds, values-found}
+use Rattle.finding.specs.Known.{Known, foundIn}
 use Rattle.finding.specs.Reads.{Reads}
 
 pub size-most : (m N : ℕ) → m ≤ 128 → N ≤ 32 → executionSize m N ≤ 19632
@@ -91,18 +92,21 @@ plain-pick true u a b c x y z = x
 plain-pick false true a b c x y z = y
 plain-pick false false a b c x y z = z
 
-values-plain : (K : Key) (P R : Parts) (e : ℕ) → Plain (values K P R e)
-unfolding values
-values-plain K P R e =
-    let w = wrongSquare K P R e in
-    plain-pick (holds (solves K (joined K P R e s) ∷ binary K (joined K P R e s) ∷ [])) (ltb w (K .m)) (secret (tab (K .m) (joined K P R e s)))
-    (square (suc e) (suc w) (joined K P R e b w) (joined K P R e d w)) (errors (suc e) (uv K P R e)) tt tt tt
+found-plain : (K : Key) (e : ℕ) (x : List ℕ) → Plain (found K e x)
+unfolding found
+found-plain K e x = plain-pick (isSecret K x) (ltb (wrongAt (K .q) (K .m) x) (K .m)) _ _ _ tt tt tt
 
-pub reads-values : (K : Key) (P R : Parts) (e : ℕ) {x : Reading} {r : code.Reading} (h1 h2 : List ℕ) {bits bits′ errs errs′ : List ℕ} → x ≡ values K P R e
-    → means r ≡ says (values K P R e) → bits′ ≡ bitsOf (values K P R e) bits → errs′ ≡ errorsOf (values K P R e) errs → Reads x r h1 h1 h2 h2 bits bits′ errs errs′
-reads-values K P R e {x} {r} h1 h2 {bits} {bits′} {errs} {errs′} is a b c =
+pub reads-found : (K : Key) (e : ℕ) (sums : List ℕ) {x : Reading} {r : code.Reading} (h1 h2 : List ℕ) {bits bits′ errs errs′ : List ℕ} → x ≡ found K e sums
+    → Finds (found K e sums) r bits bits′ errs errs′ → Reads x r h1 h1 h2 h2 bits bits′ errs errs′
+reads-found K e sums {x} {r} h1 h2 {bits} {bits′} {errs} {errs′} is f =
     subst (λ (y : Reading). Reads y r h1 h1 h2 h2 bits bits′ errs errs′) (sym is)
-    (record { answer = a; hash1 = plain-hash1 (values K P R e) h1 (values-plain K P R e); hash2 = plain-hash2 (values K P R e) h2 (values-plain K P R e); secret = b; uv = c })
+    (record {
+      answer = f .answer;
+      hash1 = plain-hash1 (found K e sums) h1 (found-plain K e sums);
+      hash2 = plain-hash2 (found K e sums) h2 (found-plain K e sums);
+      secret = f .secret;
+      uv = f .uv;
+    })
 
 -- a collision leaves the secret output and the u and v list
 pub reads-collision : (kind e party n : ℕ) (one two h1 h2 bits errs : List ℕ) {x : Reading} {ys zs : List ℕ} → x ≡ collision kind (suc e) party one two
@@ -123,3 +127,33 @@ reads-collision kind e party n one two h1 h2 bits errs {x} {ys} {zs} is l1 l2 e1
 
     l2′ : n ≡ length two
     l2′ = sym l2
+
+-- ---- what is found in the lists
+module _ (K : Key) (e h1 h2 : ℕ) (l1 l2 i1 i2 sums : List ℕ) where
+  -- where the first spot is r
+  module _ {r : Spot} (is : r ≡ firstSpot (onAll (K .m) (K .N) (K .M) (keptCount K) h1 h2) l1 l2 i1 i2) where
+    at-spot : foundIn K e h1 h2 l1 l2 i1 i2 sums ≡ readAt l1 l2 i1 i2 (suc e) (found K e sums) r
+    unfolding foundIn
+    at-spot = ap (readAt l1 l2 i1 i2 (suc e) (found K e sums)) (sym is)
+
+    pub in-none : r .kind ≡ 0 → foundIn K e h1 h2 l1 l2 i1 i2 sums ≡ found K e sums
+    in-none z = at-spot ∙ pick-true _ _ _ (eq-eqb (r .kind) 0 z)
+
+    pub in-spot : (r .kind ≡ 0 → ⊥)
+        → foundIn K e h1 h2 l1 l2 i1 i2 sums ≡ collision (r .kind) (suc e) (r .party) (shown r l1 i1) (shown r l2 i2)
+    in-spot n = at-spot ∙ pick-false _ _ _ (ne-eqb (r .kind) 0 n)
+
+  -- Where the lists hold the hash inputs and joined values of two transcripts, it is the finding of document 01.
+  pub known-found : (P R : Parts) → 2 ≤ K .N → Known K P R e h1 h2 l1 l2 i1 i2 sums
+      → foundIn K e h1 h2 l1 l2 i1 i2 sums ≡ firstDifferent (suc e) (comparisons K P R e) (values K P R e)
+  unfolding foundIn
+  known-found P R two k =
+      sym
+      (ap (firstDifferent (suc e) (comparisons K P R e)) (values-found K P R e sums (k .joined))
+      ∙ first-read K P R e h1 h2 l1 l2 i1 i2 (k .listed1) (k .listed2) (k .written1) (k .written2) (k .hides1) (k .hides2) (k .kept1) (k .kept2) two (found K e sums))
+
+pub reads-known : {K : Key} {P R : Parts} {e h1 h2 : ℕ} {l1 l2 i1 i2 sums a a′ b b′ bits bits′ errs errs′ : List ℕ} {r : code.Reading}
+    → Reads (foundIn K e h1 h2 l1 l2 i1 i2 sums) r a a′ b b′ bits bits′ errs errs′ → 2 ≤ K .N → Known K P R e h1 h2 l1 l2 i1 i2 sums
+    → Reads (firstDifferent (suc e) (comparisons K P R e) (values K P R e)) r a a′ b b′ bits bits′ errs errs′
+reads-known {K} {P} {R} {e} {h1} {h2} {l1} {l2} {i1} {i2} {sums} {a} {a′} {b} {b′} {bits} {bits′} {errs} {errs′} {r} so two k =
+    subst (λ (x : Reading). Reads x r a a′ b b′ bits bits′ errs errs′) (known-found K e h1 h2 l1 l2 i1 i2 sums P R two k) so

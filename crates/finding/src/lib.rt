@@ -1,15 +1,13 @@
 // The finding of two transcripts that fork, from their hash inputs and joined values (document 01, Pair reader).
 
 ghost use mathlib.Core.Path.{_≡_};
-ghost use Prim.Native.Nat.{suc, _+_, _*_, _-_, _≤_, _<_};
+ghost use Prim.Native.Nat.{_+_, _*_, _-_, _≤_, _<_};
 ghost use lib.ListN.{length};
-ghost use Rattle.protocol.specs.Transcript.{Parts};
-ghost use Rattle.protocol.specs.Pair.{firstDifferent, comparisons, values};
 ghost use Rattle.key.specs.Numbers.{Limits, keyWith};
 ghost use Rattle.walk.specs.Lists.{listsSize};
 ghost use Rattle.inputs.specs.Layout.{executionSize};
 ghost use Rattle.compare.specs.Spots.{Inside, shown};
-ghost use Rattle.finding.specs.Known.{Known};
+ghost use Rattle.finding.specs.Known.{foundIn};
 ghost use Rattle.finding.specs.Reads.{Reads};
 use compare::Spot;
 use key::Numbers;
@@ -60,8 +58,7 @@ pub fn find(
     requires { ⌜ 16400 ≤ length (now hash2) ⌝ }
     requires { ⌜ k .m ≤ length (now secret) ⌝ }
     requires { ⌜ k .n + k .m ≤ length (now uv) ⌝ }
-    ensures { λ r. ⌜ ((P R : Parts) → Known (keyWith k (now (entries .entry))) P R e hidden1 hidden2 (now (lists1 .entry)) (now (lists2 .entry)) (now (inputs1 .entry)) (now (inputs2 .entry)) (now (sums .entry))
-        → Reads (firstDifferent (suc e) (comparisons (keyWith k (now (entries .entry))) P R e) (values (keyWith k (now (entries .entry))) P R e)) r (now (hash1 .entry)) (now (hash1 .exit)) (now (hash2 .entry)) (now (hash2 .exit)) (now (secret .entry)) (now (secret .exit)) (now (uv .entry)) (now (uv .exit))) ⌝ }
+    ensures { λ r. ⌜ Reads (foundIn (keyWith k (now (entries .entry))) e hidden1 hidden2 (now (lists1 .entry)) (now (lists2 .entry)) (now (inputs1 .entry)) (now (inputs2 .entry)) (now (sums .entry))) r (now (hash1 .entry)) (now (hash1 .exit)) (now (hash2 .entry)) (now (hash2 .exit)) (now (secret .entry)) (now (secret .exit)) (now (uv .entry)) (now (uv .exit)) ⌝ }
 {
     let spot = compare::first_difference(k, hidden1, hidden2, lists1, lists2, inputs1, inputs2);
     if spot.kind == 0 {

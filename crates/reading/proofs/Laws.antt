@@ -21,15 +21,12 @@ use Rattle.numbers.specs.Output.{uOf, vOf}
 use Rattle.numbers.specs.Residue.{Residue}
 use Rattle.protocol.specs.Key.{Key, A, t}
 use Rattle.protocol.specs.Prover.{solves, binary}
-use Rattle.protocol.specs.Transcript.{Parts}
-use Rattle.protocol.specs.Pair.{Reading, secret, square, errors, values, says}
+use Rattle.protocol.specs.Pair.{Reading, secret, square, errors, says}
 use Rattle.key.specs.declared.Numbers.{Numbers}
 use Rattle.key.specs.Numbers.{keyWith}
-use Rattle.joined.specs.Joined.{Joined}
-use Rattle.reading.specs.declared.Reading as coded
 use Rattle.reading.specs.declared.Reading.the-variants.{Secret, Square, Errors}
-use Rattle.reading.specs.Answers.{means, bitsOf, errorsOf}
-use Rattle.reading.specs.Found.{sAt, uAt, isWrong, wrongAt, isSecret, uvAt, found, values-found}
+use Rattle.reading.specs.Answers.{bitsOf, errorsOf}
+use Rattle.reading.specs.Found.{sAt, uAt, isWrong, wrongAt, isSecret, uvAt, found, Finds}
 
 -- ---- squares
 
@@ -147,53 +144,48 @@ module _ (n m : ℕ) (us out : List ℕ) (f : ℕ → ℕ) (is : us ≡ tab n f)
 
 -- ---- the three answers
 
-module _ (K : Key) (P R : Parts) (e : ℕ) (x : List ℕ) (J : Joined K P R e x) where
-  values-secret : isSecret K x ≡ true → values K P R e ≡ secret (tab (K .m) (sAt (K .m) x))
+module _ (K : Key) (e : ℕ) (x : List ℕ) where
+  found-secret : isSecret K x ≡ true → found K e x ≡ secret (tab (K .m) (sAt (K .m) x))
   unfolding found
-  values-secret h = values-found K P R e x J ∙ pick-true (isSecret K x) _ _ h
+  found-secret h = pick-true (isSecret K x) _ _ h
 
-  values-square : (w : ℕ) → isSecret K x ≡ false → w ≡ wrongAt (K .q) (K .m) x → w < K .m
-      → values K P R e ≡ square (e + 1) (w + 1) (getD x w 0) (getD x (K .m + w) 0)
+  found-square : (w : ℕ) → isSecret K x ≡ false → w ≡ wrongAt (K .q) (K .m) x → w < K .m
+      → found K e x ≡ square (e + 1) (w + 1) (getD x w 0) (getD x (K .m + w) 0)
   unfolding found
-  values-square w h z l =
-      values-found K P R e x J ∙ pick-false (isSecret K x) _ _ h
-      ∙ rw (← z, add-one e, add-one w) (pick-true (ltb w (K .m)) _ _ (lt-ltb w (K .m) l))
+  found-square w h z l =
+      pick-false (isSecret K x) _ _ h ∙ rw (← z, add-one e, add-one w) (pick-true (ltb w (K .m)) _ _ (lt-ltb w (K .m) l))
 
-  values-errors : (w : ℕ) → isSecret K x ≡ false → w ≡ wrongAt (K .q) (K .m) x → K .m ≤ w → values K P R e ≡ errors (e + 1) (uvAt K x)
+  found-errors : (w : ℕ) → isSecret K x ≡ false → w ≡ wrongAt (K .q) (K .m) x → K .m ≤ w → found K e x ≡ errors (e + 1) (uvAt K x)
   unfolding found
-  values-errors w h z l =
-      values-found K P R e x J ∙ pick-false (isSecret K x) _ _ h
-      ∙ rw (← z, add-one e) (pick-false (ltb w (K .m)) _ _ (le-ltb w (K .m) l))
+  found-errors w h z l =
+      pick-false (isSecret K x) _ _ h ∙ rw (← z, add-one e) (pick-false (ltb w (K .m)) _ _ (le-ltb w (K .m) l))
 
-  -- what is answered, what stands in the list of the secret and what in that of u and v
-  abbrev pub answers : coded.Reading → List ℕ → List ℕ → List ℕ → List ℕ → Type 0
-  answers r bits₀ bits errs₀ errs =
-      (means r ≡ says (values K P R e)) × (bits ≡ bitsOf (values K P R e) bits₀) × (errs ≡ errorsOf (values K P R e) errs₀)
+  pub finds-secret : (bits bits₀ errs : List ℕ) → isSecret K x ≡ true → bits ≡ tab (K .m) (sAt (K .m) x)
+      → Finds (found K e x) Secret bits₀ (bits ++ drop (K .m) bits₀) errs errs
+  finds-secret bits bits₀ errs h is =
+      let z : found K e x ≡ secret (tab (K .m) (sAt (K .m) x)) = found-secret h in
+      record {
+        answer = sym (ap says z);
+        secret = rw (is) (ap (λ (i : ℕ). tab (K .m) (sAt (K .m) x) ++ drop i bits₀) (sym (tab-length (K .m) (sAt (K .m) x)))) ∙ sym (ap (λ (v : Reading). bitsOf v bits₀) z);
+        uv = sym (ap (λ (v : Reading). errorsOf v errs) z);
+      }
 
-  pub answers-secret : (bits bits₀ errs : List ℕ) → isSecret K x ≡ true → bits ≡ tab (K .m) (sAt (K .m) x)
-      → answers Secret bits₀ (bits ++ drop (K .m) bits₀) errs errs
-  answers-secret bits bits₀ errs h is =
-      let z : values K P R e ≡ secret (tab (K .m) (sAt (K .m) x)) = values-secret h in (
-        sym (ap says z),
-        rw (is) (ap (λ (i : ℕ). tab (K .m) (sAt (K .m) x) ++ drop i bits₀) (sym (tab-length (K .m) (sAt (K .m) x)))) ∙ sym (ap (λ (v : Reading). bitsOf v bits₀) z),
-        sym (ap (λ (v : Reading). errorsOf v errs) z),
-      )
-
-  pub answers-square : (w : ℕ) (bits errs : List ℕ) → isSecret K x ≡ false → w ≡ wrongAt (K .q) (K .m) x → w < K .m
-      → answers (Square (e + 1) (w + 1) (getD x w 0) (getD x (K .m + w) 0)) bits bits errs errs
-  answers-square w bits errs h is l =
-      let z : values K P R e ≡ square (e + 1) (w + 1) (getD x w 0) (getD x (K .m + w) 0) = values-square w h is l in
-      (sym (ap says z), sym (ap (λ (v : Reading). bitsOf v bits) z), sym (ap (λ (v : Reading). errorsOf v errs) z))
+  pub finds-square : (w : ℕ) (bits errs : List ℕ) → isSecret K x ≡ false → w ≡ wrongAt (K .q) (K .m) x → w < K .m
+      → Finds (found K e x) (Square (e + 1) (w + 1) (getD x w 0) (getD x (K .m + w) 0)) bits bits errs errs
+  finds-square w bits errs h is l =
+      let z : found K e x ≡ square (e + 1) (w + 1) (getD x w 0) (getD x (K .m + w) 0) = found-square w h is l in
+      record { answer = sym (ap says z); secret = sym (ap (λ (v : Reading). bitsOf v bits) z); uv = sym (ap (λ (v : Reading). errorsOf v errs) z) }
 
   uv-long : length (uvAt K x) ≡ K .n + K .m
   unfolding uvAt
   uv-long = simp (length-append, tab-length) refl
 
-  pub answers-errors : (w : ℕ) (bits errs errs₀ : List ℕ) → isSecret K x ≡ false → w ≡ wrongAt (K .q) (K .m) x → K .m ≤ w → errs ≡ uvAt K x
-      → answers (Errors (e + 1)) bits bits errs₀ (errs ++ drop (K .n + K .m) errs₀)
-  answers-errors w bits errs errs₀ h is l so =
-      let z : values K P R e ≡ errors (e + 1) (uvAt K x) = values-errors w h is l in (
-        sym (ap says z),
-        sym (ap (λ (v : Reading). bitsOf v bits) z),
-        rw (so) (ap (λ (i : ℕ). uvAt K x ++ drop i errs₀) (sym uv-long)) ∙ sym (ap (λ (v : Reading). errorsOf v errs₀) z),
-      )
+  pub finds-errors : (w : ℕ) (bits errs errs₀ : List ℕ) → isSecret K x ≡ false → w ≡ wrongAt (K .q) (K .m) x → K .m ≤ w → errs ≡ uvAt K x
+      → Finds (found K e x) (Errors (e + 1)) bits bits errs₀ (errs ++ drop (K .n + K .m) errs₀)
+  finds-errors w bits errs errs₀ h is l so =
+      let z : found K e x ≡ errors (e + 1) (uvAt K x) = found-errors w h is l in
+      record {
+        answer = sym (ap says z);
+        secret = sym (ap (λ (v : Reading). bitsOf v bits) z);
+        uv = rw (so) (ap (λ (i : ℕ). uvAt K x ++ drop i errs₀) (sym uv-long)) ∙ sym (ap (λ (v : Reading). errorsOf v errs₀) z);
+      }

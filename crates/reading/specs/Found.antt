@@ -18,10 +18,12 @@ use Rattle.protocol.specs.Key.{Key, A, t}
 use Rattle.protocol.specs.Shares.{sq, b, d, s}
 use Rattle.protocol.specs.Prover.{solves, binary}
 use Rattle.protocol.specs.Transcript.{Parts}
-use Rattle.protocol.specs.Pair.{Reading, secret, square, errors, joined, uv, wrongSquare, values}
+use Rattle.protocol.specs.Pair.{Reading, secret, square, errors, joined, uv, wrongSquare, values, says}
 use Rattle.key.specs.declared.Numbers.{Numbers}
 use Rattle.key.specs.Numbers.{Limits}
 use Rattle.joined.specs.Joined.{Joined}
+use Rattle.reading.specs.declared.Reading as code
+use Rattle.reading.specs.Answers.{means, bitsOf, errorsOf}
 
 -- the lists are long enough for a key that was read
 pub record Ready (k : Numbers) (entries sums : List ℕ) : Type 0 where
@@ -57,6 +59,12 @@ found K e x =
     (pick (ltb (wrongAt (K .q) (K .m) x) (K .m))
     (square (suc e) (suc (wrongAt (K .q) (K .m) x)) (getD x (wrongAt (K .q) (K .m) x) 0) (getD x (K .m + wrongAt (K .q) (K .m) x) 0))
     (errors (suc e) (uvAt K x)))
+
+-- the answer's number and values, and the secret output and the u and v list, before and after
+pub record Finds (f : Reading) (r : code.Reading) (bits bits′ errs errs′ : List ℕ) : Type 0 where
+  pub answer : means r ≡ says f
+  pub secret : bits′ ≡ bitsOf f bits
+  pub uv : errs′ ≡ errorsOf f errs
 
 -- ---- tests and tables look at their functions below m alone
 pub least-ext : (n : ℕ) (p r : ℕ → Bool) → ((k : ℕ) → k < n → p k ≡ r k) → least n p ≡ least n r

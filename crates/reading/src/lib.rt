@@ -12,12 +12,8 @@ ghost use Rattle.numbers.specs.Inverse.{Member, qs};
 ghost use Rattle.numbers.specs.Output.{vOf};
 ghost use Rattle.numbers.specs.Residue.{Residue};
 ghost use Rattle.protocol.specs.Prover.{solves};
-ghost use Rattle.protocol.specs.Transcript.{Parts};
-ghost use Rattle.protocol.specs.Pair.{values, says};
 ghost use Rattle.key.specs.Numbers.{Limits, keyWith};
-ghost use Rattle.joined.specs.Joined.{Joined};
-ghost use Rattle.reading.specs.Answers.{means, bitsOf, errorsOf};
-ghost use Rattle.reading.specs.Found.{Ready, sAt, uAt, wrongAt, isSecret, uvAt};
+ghost use Rattle.reading.specs.Found.{Ready, Finds, sAt, uAt, wrongAt, isSecret, uvAt, found};
 use key::Numbers;
 
 // The number of a refusal; the kind, the execution, the party and the length of a collision; a secret; the execution, the
@@ -215,10 +211,7 @@ pub fn read_values(
     requires { ⌜ k .m ≤ length (now secret) ⌝ }
     requires { ⌜ k .n + k .m ≤ length (now uv) ⌝ }
     requires { ⌜ e < 32 ⌝ }
-    ensures { λ r. ⌜ ((P R : Parts) → Joined (keyWith k (now (entries .entry))) P R e (now (sums .entry)) →
-        (means r ≡ says (values (keyWith k (now (entries .entry))) P R e))
-        × (now (secret .exit) ≡ bitsOf (values (keyWith k (now (entries .entry))) P R e) (now (secret .entry)))
-        × (now (uv .exit) ≡ errorsOf (values (keyWith k (now (entries .entry))) P R e) (now (uv .entry)))) ⌝ }
+    ensures { λ r. ⌜ Finds (found (keyWith k (now (entries .entry))) e (now (sums .entry))) r (now (secret .entry)) (now (secret .exit)) (now (uv .entry)) (now (uv .exit)) ⌝ }
 {
     let m = k.m;
     if is_secret(k, entries, sums) {

@@ -3,10 +3,9 @@ use mathlib.Core.Path.{sym}
 use native.Mathlib.Omega.{arith}
 use lib.ListN.{length}
 use lib.Seq.{length-take-le}
-use Rattle.protocol.specs.Pair.{values}
-use Rattle.key.specs.Numbers.{keyWith, of-with}
+use Rattle.key.specs.Numbers.{keyWith}
 use Rattle.compare.specs.Spots.{Inside, shown}
-use Rattle.finding.proofs.Laws.{size-most, inside-at, shown-long, reads-values, reads-collision}
+use Rattle.finding.proofs.Laws.{size-most, inside-at, shown-long, reads-found, reads-collision, in-none, in-spot}
 use borrow.Author.Needs.{needs}
 use Rattle.finding.proofs.find.Statement.{statement}
 use Rattle.finding.proofs.find.Tie as tie
@@ -38,10 +37,9 @@ returns : tie.Need-returns
 returns c =
     let s = c .before .before .before .before .before .before .before .before .before .before .before .before .before .before .before .before .before .before .before .before in
     let K = keyWith (s .args .k) (s .args .entries .now) in
-    λ P R known.
-    let z = c .before .before .before .before .before .before .before .before .before .first-difference .ensures .0 K P R (s .args .e) (of-with (s .args .k) (s .args .entries .now)) (known .listed1) (known .listed2) (known .written1) (known .written2) (known .hides1) (known .hides2) (known .kept1) (known .kept2) in
-    let r = c .before .before .before .before .read-values .ensures P R (known .joined) in
-    reads-values K P R (s .args .e) (s .args .hash1 .now) (s .args .hash2 .now) (z .none (c .before .before .before .before .before .before .before .if1 .taken) (values K P R (s .args .e))) (r .0) (r .1) (r .2)
+    reads-found K (s .args .e) (s .args .sums .now) (s .args .hash1 .now) (s .args .hash2 .now)
+    (in-none K (s .args .e) (s .args .hidden1) (s .args .hidden2) (s .args .lists1 .now) (s .args .lists2 .now) (s .args .inputs1 .now) (s .args .inputs2 .now) (s .args .sums .now) (c .before .before .before .before .before .before .before .before .before .first-difference .ensures .1 .1) (c .before .before .before .before .before .before .before .if1 .taken))
+    (c .before .before .before .before .read-values .ensures)
 
 slice-relend-prefix-show : tie.Need-slice-relend-prefix-show
 slice-relend-prefix-show c = omega (arith, c .before .before .first-difference .ensures .1 .0 .short, c .before .before .before .before .before .before .before .before .before .before .before .before .before .pre .1 .1 .1 .1 .1 .1 .1 .1 .0)
@@ -85,10 +83,8 @@ returns-2 c =
     let s = c .before .before .before .before .before .before .before .before .before .before .before .before .before .before .before .before .before .before .before .before .before in
     let K = keyWith (s .args .k) (s .args .entries .now) in
     let spot = c .before .before .before .before .before .before .before .before .before .before .first-difference .result in
-    λ P R known.
-    let z = c .before .before .before .before .before .before .before .before .before .before .first-difference .ensures .0 K P R (s .args .e) (of-with (s .args .k) (s .args .entries .now)) (known .listed1) (known .listed2) (known .written1) (known .written2) (known .hides1) (known .hides2) (known .kept1) (known .kept2) in
     reads-collision (spot .kind) (s .args .e) (spot .party) (spot .length) (shown spot (s .args .lists1 .now) (s .args .inputs1 .now)) (shown spot (s .args .lists2 .now) (s .args .inputs2 .now))
-    (s .args .hash1 .now) (s .args .hash2 .now) (s .args .secret .now) (s .args .uv .now) (z .some (c .before .before .before .before .before .before .before .before .if1 .left) (values K P R (s .args .e)))
+    (s .args .hash1 .now) (s .args .hash2 .now) (s .args .secret .now) (s .args .uv .now) (in-spot K (s .args .e) (s .args .hidden1) (s .args .hidden2) (s .args .lists1 .now) (s .args .lists2 .now) (s .args .inputs1 .now) (s .args .inputs2 .now) (s .args .sums .now) (c .before .before .before .before .before .before .before .before .before .before .first-difference .ensures .1 .1) (c .before .before .before .before .before .before .before .before .if1 .left))
     (shown-long spot (s .args .lists1 .now) (s .args .inputs1 .now) (in-one (c .before .before .before .before .before .before .before .before .before .before))) (shown-long spot (s .args .lists2 .now) (s .args .inputs2 .now) (in-two (c .before .before .before .before .before .before .before .before .before .before)))
     (c .before .before .before .before .before .before .show .ensures) (c .before .before .show2 .ensures)
 

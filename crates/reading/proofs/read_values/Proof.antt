@@ -4,7 +4,7 @@ use lib.Seq.{length-take-le}
 use Rattle.protocol.specs.Key.{Key}
 use Rattle.key.specs.Numbers.{keyWith}
 use Rattle.reading.specs.Found.{Ready}
-use Rattle.reading.proofs.Laws.{secret-bits, answers-secret, answers-square, answers-errors}
+use Rattle.reading.proofs.Laws.{secret-bits, finds-secret, finds-square, finds-errors}
 use borrow.Author.Needs.{needs}
 use Rattle.reading.proofs.read_values.Statement.{statement}
 use Rattle.reading.proofs.read_values.Tie as tie
@@ -38,8 +38,7 @@ same-length c = search needs
 returns : tie.Need-returns
 returns c =
     let z : tie.Start = c .before .before .before .before .before .before .before .before .before .before in
-    λ P R J.
-    answers-secret (key z) P R (z .args .e) (z .args .sums .now) J _ (z .args .secret .now) (z .args .uv .now) (sym (c .before .before .before .before .before .is-secret .ensures) ∙ c .before .before .before .before .if1 .taken) (c .before .before .write-bits .ensures)
+    finds-secret (key z) (z .args .e) (z .args .sums .now) _ (z .args .secret .now) (z .args .uv .now) (sym (c .before .before .before .before .before .is-secret .ensures) ∙ c .before .before .before .before .if1 .taken) (c .before .before .write-bits .ensures)
 
 wrong-square-requires : tie.Need-wrong-square-requires
 wrong-square-requires c κs = search needs
@@ -68,8 +67,7 @@ shared-slice-read-t23 c = search needs
 returns-2 : tie.Need-returns-2
 returns-2 c =
     let z : tie.Start = c .before .before .before .before .before .before .before .before .before .before in
-    λ P R J.
-    answers-square (key z) P R (z .args .e) (z .args .sums .now) J _ (z .args .secret .now) (z .args .uv .now) (sym (c .before .before .before .before .before .is-secret .ensures) ∙ c .before .before .before .before .if1 .left) (c .before .before .before .wrong-square .ensures) (c .before .before .if2 .taken)
+    finds-square (key z) (z .args .e) (z .args .sums .now) _ (z .args .secret .now) (z .args .uv .now) (sym (c .before .before .before .before .before .is-secret .ensures) ∙ c .before .before .before .before .if1 .left) (c .before .before .before .wrong-square .ensures) (c .before .before .if2 .taken)
 
 add-count : tie.Need-add-count
 add-count c = search needs
@@ -96,8 +94,7 @@ same-length-2 c = search needs
 returns-3 : tie.Need-returns-3
 returns-3 c =
     let z : tie.Start = c .before .before .before .before .before .before .before .before .before .before .before .before .before in
-    λ P R J.
-    answers-errors (key z) P R (z .args .e) (z .args .sums .now) J _ (z .args .secret .now) _ (z .args .uv .now) (sym (c .before .before .before .before .before .before .before .before .is-secret .ensures) ∙ c .before .before .before .before .before .before .before .if1 .left) (c .before .before .before .before .before .before .wrong-square .ensures) (c .before .before .before .before .before .if2 .left) (c .before .before .write-errors .ensures)
+    finds-errors (key z) (z .args .e) (z .args .sums .now) _ (z .args .secret .now) _ (z .args .uv .now) (sym (c .before .before .before .before .before .before .before .before .is-secret .ensures) ∙ c .before .before .before .before .before .before .before .if1 .left) (c .before .before .before .before .before .before .wrong-square .ensures) (c .before .before .before .before .before .if2 .left) (c .before .before .write-errors .ensures)
 
 pub read-values-spec : {M : Type 1} → statement M
 read-values-spec =

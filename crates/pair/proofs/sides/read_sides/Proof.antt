@@ -1,6 +1,6 @@
 -- `read_sides` meets its contract. Assumes nothing.
 use native.Mathlib.Omega.{arith}
-use Rattle.protocol.specs.Transcript.{partsOf}
+use Rattle.finding.proofs.Laws.{reads-known}
 use borrow.Author.Needs.{needs}
 use Rattle.pair.proofs.sides.read_sides.Statement.{statement}
 use Rattle.pair.proofs.sides.read_sides.Tie as tie
@@ -53,7 +53,7 @@ returns c =
     let s = c .before .before .before .before .before .before .before .before .before .before .before .before .before .before .before .before .before .before .before .before .before .before .before .before .before .before .before .before .before .before .before .before .before .before .before .before .before .before .before .before .before .before in
     let p = s .pre in
     let both = c .before .before .before .before .before .before .before .before .before .before .before .before .before .before .before .before .before .before .before .before .before .before .before .before .open-both .ensures in
-    c .before .before .before .before .before .before .before .before .find .ensures (partsOf (s .args .run1 .now)) (partsOf (s .args .run2 .now))
+    reads-known (c .before .before .before .before .before .before .before .before .find .ensures) (p .0 .N-least)
     (record {
       listed1 = p .1 .1 .1 .1 .0;
       listed2 = p .1 .1 .1 .1 .1 .0;
