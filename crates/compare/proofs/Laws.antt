@@ -21,11 +21,11 @@ use Rattle.protocol.specs.Transcript.{Parts}
 use Rattle.protocol.specs.Judge.{hidden, κ, keptView, view}
 use Rattle.protocol.specs.Pair.{Comparison, Reading, collision, firstDifferent, compare, openInBoth, comparisons}
 use Rattle.key.specs.declared.Numbers.{Numbers}
-use Rattle.key.specs.Numbers.{Of, Limits}
+use Rattle.key.specs.Numbers.{Limits}
 use Rattle.walk.specs.Lists.{Listed, listsSize, hπFrom, hψFrom}
 use Rattle.inputs.specs.Layout.{Written, executionSize, ΓFrom, ΓSize, ΩFrom, ΠFrom, ΨFrom}
 use Rattle.compare.specs.declared.Spot.{Spot}
-use Rattle.compare.specs.Spots.{Spotted, Inside, Spots, Marked, Equal, at, nowhere, shown, firstSpot, openBoth, onHashes, onParty, onLast, onRest, onAll}
+use Rattle.compare.specs.Spots.{Inside, Spots, Marked, Equal, at, nowhere, shown, firstSpot, openBoth, onHashes, onParty, onLast, onRest, onAll}
 
 -- ---- one place of two lists
 module _ (kind party : ℕ) (listed : Bool) (from size : ℕ) (one two : List ℕ) where
@@ -511,37 +511,16 @@ module _ (K : Key) (P R : Parts) (e h1 h2 : ℕ) (l1 l2 i1 i2 : List ℕ) (L1 : 
       ap (λ (a : List Comparison). firstDifferent (suc e) a x) (laid two)
       ∙ reads-first l1 l2 i1 i2 (onAll (K .m) (K .N) (K .M) (keptCount K) h1 h2) (kinds-all (K .m) (K .N) (K .M) (keptCount K) h1 h2) (suc e) x
 
-  pub spotted : (k : Numbers) → Limits k → Of k K → {r : Spot}
-      → r ≡ firstSpot (onAll (k .m) (k .parties) (k .executions) (k .executions - k .opened) h1 h2) l1 l2 i1 i2
-      → Spotted K P R e r l1 l2 i1 i2
-  spotted k limits of {r} is =
-      record {
-        none = λ z x. at-spot x ∙ pick-true _ _ _ (eq-eqb (r .kind) 0 z);
-        some = λ n x. at-spot x ∙ pick-false _ _ _ (ne-eqb (r .kind) 0 n);
-      }
-    where
-      at-spot : (x : Reading) → firstDifferent (suc e) (comparisons K P R e) x ≡ readAt l1 l2 i1 i2 (suc e) x r
-      at-spot x =
-          first-read (omega (arith, limits .N-least, of .N-is)) x
-          ∙ ap (readAt l1 l2 i1 i2 (suc e) x)
-          (sym (is ∙ (λ j. firstSpot (onAll (of .m-is j) (of .N-is j) (of .M-is j) (of .M-is j - of .τ-is j) h1 h2) l1 l2 i1 i2)))
-
 -- The answers of the crate's function.
-pub answered : (k : Numbers) (h1 h2 : ℕ) (l1 l2 i1 i2 : List ℕ) → Limits k
+pub answered : (k : Numbers) (h1 h2 : ℕ) (l1 l2 i1 i2 : List ℕ)
     → length l1 ≡ listsSize (k .executions) (k .executions - k .opened) → length i1 ≡ executionSize (k .m) (k .parties) → {r : Spot}
     → Spots (onAll (k .m) (k .parties) (k .executions) (k .executions - k .opened) h1 h2) l1 l2 i1 i2 r
-    → ((K : Key) (P R : Parts) (e : ℕ) → Of k K → Listed K P l1 → Listed K R l2 → Written K (keptView K P e) (κ K P) (P .p4) i1
-    → Written K (keptView K R e) (κ K R) (R .p4) i2 → hidden K P e ≡ h1 → hidden K R e ≡ h2 → opened (P .p2) e ≡ false
-    → opened (R .p2) e ≡ false → Spotted K P R e r l1 l2 i1 i2
-    ) × (Inside (listsSize (k .executions) (k .executions - k .opened)) (executionSize (k .m) (k .parties)) r
-    × (r ≡ firstSpot (onAll (k .m) (k .parties) (k .executions) (k .executions - k .opened) h1 h2) l1 l2 i1 i2))
-answered k h1 h2 l1 l2 i1 i2 limits long-l long-i {r} s = (
-  λ K P R e of L1 L2 W1 W2 hid1 hid2 kept1 kept2. spotted K P R e h1 h2 l1 l2 i1 i2 L1 L2 W1 W2 hid1 hid2 kept1 kept2 k limits of (s .is),
-  (
-    record {
-      within = subst (λ (n : ℕ). r .from + r .length ≤ n) (ap₂ (λ (a b : ℕ). pick (r .listed) a b) long-l long-i) (s .inside .within);
-      short = s .inside .short;
-    },
-    s .is,
-  ),
+    → Inside (listsSize (k .executions) (k .executions - k .opened)) (executionSize (k .m) (k .parties)) r
+    × (r ≡ firstSpot (onAll (k .m) (k .parties) (k .executions) (k .executions - k .opened) h1 h2) l1 l2 i1 i2)
+answered k h1 h2 l1 l2 i1 i2 long-l long-i {r} s = (
+  record {
+    within = subst (λ (n : ℕ). r .from + r .length ≤ n) (ap₂ (λ (a b : ℕ). pick (r .listed) a b) long-l long-i) (s .inside .within);
+    short = s .inside .short;
+  },
+  s .is,
 )

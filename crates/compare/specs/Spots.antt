@@ -8,9 +8,6 @@ use mathlib.Core.List.{List, [], _∷_, _++_}
 use lib.Dec.{eqb}
 use lib.ListN.{length}
 use Rattle.lists.specs.Index.{pick, part, cat, same, holds}
-use Rattle.protocol.specs.Key.{Key}
-use Rattle.protocol.specs.Transcript.{Parts}
-use Rattle.protocol.specs.Pair.{Reading, collision, firstDifferent, comparisons}
 use Rattle.walk.specs.Lists.{hπFrom, hψFrom}
 use Rattle.inputs.specs.Layout.{ΓFrom, ΓSize, ΩFrom, ΠFrom, ΨFrom}
 use Rattle.compare.specs.declared.Spot.{Spot}
@@ -36,12 +33,6 @@ firstSpot (r ∷ rs) l1 l2 i1 i2 = pick (same (shown r l1 i1) (shown r l2 i2)) (
 abbrev pub Equal : List Spot → (l1 l2 i1 i2 : List ℕ) → Type 0
 Equal [] l1 l2 i1 i2 = Unit {0}
 Equal (r ∷ rs) l1 l2 i1 i2 = (same (shown r l1 i1) (shown r l2 i2) ≡ true) × Equal rs l1 l2 i1 i2
-
--- r is the first of the pair reader's comparisons in execution e that finds two inputs different
-pub record Spotted (K : Key) (P R : Parts) (e : ℕ) (r : Spot) (l1 l2 i1 i2 : List ℕ) : Type 0 where
-  pub none : r .kind ≡ 0 → (x : Reading) → firstDifferent (suc e) (comparisons K P R e) x ≡ x
-  pub some : (r .kind ≡ 0 → ⊥) → (x : Reading)
-      → firstDifferent (suc e) (comparisons K P R e) x ≡ collision (r .kind) (suc e) (r .party) (shown r l1 i1) (shown r l2 i2)
 
 -- the place of r lies in lists of these lengths
 pub record Inside (lists inputs : ℕ) (r : Spot) : Type 0 where

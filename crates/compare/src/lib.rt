@@ -8,14 +8,10 @@ ghost use mathlib.Core.List.{List};
 ghost use Prim.Native.Nat.{ℕ, _+_, _*_, _-_, _≤_, _<_};
 ghost use lib.ListN.{length};
 ghost use Rattle.lists.specs.Index.{cat};
-ghost use Rattle.protocol.specs.Key.{Key};
-ghost use Rattle.protocol.specs.Prover.{opened};
-ghost use Rattle.protocol.specs.Transcript.{Parts};
-ghost use Rattle.protocol.specs.Judge.{hidden, κ, keptView};
-ghost use Rattle.key.specs.Numbers.{Of, Limits};
-ghost use Rattle.walk.specs.Lists.{Listed, listsSize};
-ghost use Rattle.inputs.specs.Layout.{Written, executionSize};
-ghost use Rattle.compare.specs.Spots.{Spotted, Inside, Spots, Marked, nowhere, firstSpot, openBoth, onHashes, onParty, onLast, onRest, onAll};
+ghost use Rattle.key.specs.Numbers.{Limits};
+ghost use Rattle.walk.specs.Lists.{listsSize};
+ghost use Rattle.inputs.specs.Layout.{executionSize};
+ghost use Rattle.compare.specs.Spots.{Inside, Spots, Marked, nowhere, firstSpot, openBoth, onHashes, onParty, onLast, onRest, onAll};
 
 // Two inputs that differ: their kind, the party from 1 on (N for Ω, 0 where none), and where both begin and how long both are, in the
 // lists of the list hashes or in those of the execution. Where no two inputs differ, each is 0 or false.
@@ -231,7 +227,6 @@ pub fn first_difference(
     requires { ⌜ length (now lists2) ≡ listsSize (k .executions) (k .executions - k .opened) ⌝ }
     requires { ⌜ length (now inputs1) ≡ executionSize (k .m) (k .parties) ⌝ }
     requires { ⌜ length (now inputs2) ≡ executionSize (k .m) (k .parties) ⌝ }
-    ensures { λ r. ⌜ ((K : Key) (P R : Parts) (e : ℕ) → Of k K → Listed K P (now (lists1 .entry)) → Listed K R (now (lists2 .entry)) → Written K (keptView K P e) (κ K P) (P .p4) (now (inputs1 .entry)) → Written K (keptView K R e) (κ K R) (R .p4) (now (inputs2 .entry)) → hidden K P e ≡ hidden1 → hidden K R e ≡ hidden2 → opened (P .p2) e ≡ false → opened (R .p2) e ≡ false → Spotted K P R e r (now (lists1 .entry)) (now (lists2 .entry)) (now (inputs1 .entry)) (now (inputs2 .entry))) ⌝ }
     ensures { λ r. ⌜ Inside (listsSize (k .executions) (k .executions - k .opened)) (executionSize (k .m) (k .parties)) r ⌝ }
     ensures { λ r. ⌜ r ≡ firstSpot (onAll (k .m) (k .parties) (k .executions) (k .executions - k .opened) hidden1 hidden2) (now (lists1 .entry)) (now (lists2 .entry)) (now (inputs1 .entry)) (now (inputs2 .entry)) ⌝ }
 {
