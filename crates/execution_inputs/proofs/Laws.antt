@@ -1,6 +1,6 @@
 -- From the bytes that the code writes to the hash inputs of document 01.
 -- Assumes nothing.
-use Prim.Native.Nat.{ℕ, suc, _+_, _*_, _-_, _%_, _<_, _≤_}
+use Prim.Native.Nat.{ℕ, suc, _+_, _*_, _-_, _<_, _≤_}
 use mathlib.Core.Path.{_≡_, refl, sym, _∙_, ap, ap₂, subst}
 use mathlib.Core.Bool.{Bool, true, false}
 use mathlib.Core.List.{List, [], _++_, append-nil, append-assoc}
@@ -13,9 +13,8 @@ use lib.Dec.{eqb}
 use lib.ListN.{length, take, drop, length-append, length-drop, drop-of-length-le}
 use Rattle.lists.specs.Index.{cat, pick, part}
 use Rattle.lists.specs.Tab.{tab}
-use Rattle.lists.specs.Bytes.{words, num}
+use Rattle.lists.specs.Bytes.{words}
 use Rattle.lists.specs.CatLaws.{cat-more, cat-length, cat-part, part-length, part-first, part-right, part-mid, part-last, words-length}
-use Rattle.numbers.specs.Sum.{sum}
 use Rattle.sha_core.specs.Digest.{sha256-length}
 use Rattle.streams.specs.Streams.{block, block-length}
 use Rattle.protocol.specs.Key.{Key}
@@ -24,13 +23,12 @@ use Rattle.protocol.specs.Transcript.{Parts}
 use Rattle.protocol.specs.Judge.{κ, keptView}
 use Rattle.protocol.proofs.Demand3Lengths.{Πin-length, Ψin-length}
 use Rattle.execution.specs.Shown.{Shown}
-use Rattle.execution.specs.Lists.{alphaAt}
 use Rattle.execution.proofs.Laws.{inside}
 use Rattle.views.specs.Seen.{gammaOpen, gammaAt, ForH, ForΩ}
-use Rattle.views.proofs.Laws.{d-part, h-is, omega-is, sums-is, psi-is}
+use Rattle.views.proofs.Laws.{d-part, h-is, omega-is, psi-is}
 use Rattle.outputs.specs.Stated.{Stated}
-use Rattle.kept.specs.Kept.{Shared, KeptIn}
-use Rattle.kept.proofs.Laws.{to-end, kept-for-h, kept-for-Ω, shared-for-Π, shared-stated}
+use Rattle.kept.specs.Kept.{KeptIn}
+use Rattle.kept.proofs.Laws.{to-end, kept-for-h, kept-for-Ω}
 use Rattle.inputs.specs.Layout.{ΓFrom, ΓSize, ΩFrom, ΠFrom, ΨFrom, executionSize, Written}
 use Rattle.inputs.specs.Steps.{gammaIn, omegaIn}
 
@@ -60,13 +58,6 @@ psi-in {N} {K} {v} so κ L before {outs} {out} long is p =
     (is
     ∙ (ap (λ (x : List ℕ). tab N (o K v L) ++ x) (drop-of-length-le before {i = N} (omega (arith, long)))
     ∙ (append-nil (tab N (o K v L)) ∙ ap (λ (x : ℕ). tab x (o K v L)) (sym (so .sized .parties))))))
-
--- the sums of α stand in front, as the outputs take them
-pub stated : {q n m N hid e : ℕ} {given entries work : List ℕ} {K : Key} {v : View} → Shared q n m N hid e given entries work K v
-    → (sums before : List ℕ) → sums ≡ tab m (λ k. sum N (alphaAt q m hid given work k) % q) ++ drop m before
-    → Stated q n m N hid e (num given m) entries sums work K v
-stated {m} so sums before is =
-    shared-stated so (drop m before) (is ∙ ap (λ (x : List ℕ). x ++ drop m before) (sums-is (shared-for-Π so))) refl
 
 -- Γ(i)'s input of an open party
 module _ {m N hid e : ℕ} {given leaves work : List ℕ} {K : Key} {v : View} (so : ForH m N hid e given leaves work K v) (long : 3 * m * N ≤ length work) where

@@ -20,8 +20,9 @@ use Rattle.protocol.specs.Transcript.{Parts}
 use Rattle.protocol.specs.Judge.{hidden, given, κ, keptView}
 use Rattle.execution.proofs.Held.{d-last, s-last}
 use Rattle.execution.specs.Shown.{Holds, Shown, placeOf}
+use Rattle.execution.specs.Lists.{alphaAt}
 use Rattle.views.specs.Seen.{ForH, ForΩ, ForΠ}
-use Rattle.views.proofs.Laws.{psi-is, outputs-sum}
+use Rattle.views.proofs.Laws.{sums-is, psi-is, outputs-sum}
 use Rattle.outputs.specs.Stated.{Stated}
 use Rattle.kept.specs.Kept.{Shared, Answered, KeptIn, Evaluates}
 
@@ -128,10 +129,10 @@ module _ {q n m N hid e : ℕ} {given entries work : List ℕ} {K : Key} {v : Vi
         ss = here (λ x y z. Holds x y z (2 * x) work (s K v)) (so .ss);
       }
 
-  module _ {sums : List ℕ} (rest : List ℕ) (is : sums ≡ tab m (αsum K v) ++ rest) where
+  module _ {sums : List ℕ} (rest : List ℕ) (is : sums ≡ tab m (λ k. sum N (alphaAt q m hid given work k) % q) ++ rest) where
     sum-at : (k : ℕ) → k < m → getD sums k 0 ≡ αsum K v k
     sum-at k h =
-        ap (λ (x : List ℕ). getD x k 0) is
+        ap (λ (x : List ℕ). getD x k 0) (is ∙ ap (λ (x : List ℕ). x ++ rest) (sums-is shared-for-Π))
         ∙ (List·getD-append (tab m (αsum K v)) rest 0 k (rw (tab-length m (αsum K v)) h) ∙ tab-at m (αsum K v) k h)
 
     pub shared-stated : {x : ℕ} → x ≡ num given m → Stated q n m N hid e x entries sums work K v

@@ -9,17 +9,21 @@ use lib.ListN.{length, getD, take, drop, length-append, length-drop}
 use lib.Seq.{drop-drop, take-at, drop-at}
 use Rattle.lists.specs.Written.{both-parts, built-all, built-more, built-none, puts-none, puts-some}
 use Rattle.lists.specs.Index.{cat, pick, part}
+use Rattle.lists.specs.Bytes.{nums}
 use Rattle.sha.specs.State.{Stands, Fed}
 use Rattle.sha.specs.declared.Sha.{Sha}
 use Rattle.sha_core.specs.Fips180.{sha256}
+use Rattle.streams.specs.Streams.{block}
 use Rattle.protocol.specs.Key.{Key, depth}
 use Rattle.protocol.specs.Shares.{View, dealt, Ωin, Πin, b, s, input}
 use Rattle.protocol.specs.Prover.{proverView, kept, hπin, sized, opened, message3}
 use Rattle.execution.proofs.Held.{s-last}
 use Rattle.execution.specs.Shown.{Sized, Holds, placeOf}
 use Rattle.execution.specs.Begun.{Begun}
+use Rattle.execution.specs.Lists.{alphaAt}
 use Rattle.masks.specs.Masks.{Carried, Masked}
 use Rattle.views.specs.Seen.{ForΩ, ForΠ}
+use Rattle.views.proofs.Laws.{pi-is}
 use Rattle.message_3.specs.Parts.{OmegaOf, PiOf, KeptPuts, KeptBuilt, KeptAll, KeptPart, Rest}
 
 -- ---- one execution that is dealt
@@ -66,10 +70,13 @@ omega-of {e} {master} {secret} some so f =
     record { is = λ K sized deep. f K (dealt K e master (λ k. getD secret k 0)) (for-omega K (dealt K e master (λ k. getD secret k 0)) sized some refl refl (so .carried K e sized deep)) }
 
 pub pi-of : {q m N D e : ℕ} {master secret κ leaves work r : List ℕ} (given : List ℕ) → 1 ≤ N → Masked q m N D master secret leaves work
-    → ((K : Key) (v : View) → ForΠ q m N N e given work K v → r ≡ sha256 (Πin K v κ)) → PiOf q m N D e master secret κ r
+    → r ≡ sha256 (input 6 (e + 1) 0 (cat m (λ k. nums N (alphaAt q m N given work k)) ++ block κ (2 * e))) → PiOf q m N D e master secret κ r
 unfolding dealt
-pi-of {e} {master} {secret} given some so f =
-    record { is = λ K sized deep. f K (dealt K e master (λ k. getD secret k 0)) (for-pi K (dealt K e master (λ k. getD secret k 0)) sized some refl refl (so .carried K e sized deep) given) }
+pi-of {e} {master} {secret} {κ} given some so is =
+    record {
+      is = λ K sized deep.
+          is ∙ ap sha256 (pi-is (for-pi K (dealt K e master (λ k. getD secret k 0)) sized some refl refl (so .carried K e sized deep) given) κ);
+    }
 
 -- Ω and Π go to their place
 pub kept-none : {q m N D x at : ℕ} {E seeds secret κ o p : List ℕ} → opened E x ≡ true → KeptPuts q m N D x at at E seeds secret κ o o p p

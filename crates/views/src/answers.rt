@@ -2,16 +2,17 @@
 
 ghost use mathlib.Core.Path.{_≡_};
 ghost use mathlib.Core.List.{_++_};
-ghost use Prim.Native.Nat.{_+_, _*_, _-_, _<_, _≤_};
+ghost use Prim.Native.Nat.{_+_, _*_, _-_, _%_, _<_, _≤_};
 ghost use lib.ListN.{length, getD, drop, replicate};
 ghost use Rattle.lists.specs.Tab.{tab};
+ghost use Rattle.lists.specs.Index.{cat};
+ghost use Rattle.lists.specs.Bytes.{nums};
 ghost use Rattle.numbers.specs.Sum.{sum};
 ghost use Rattle.sha_core.specs.Fips180.{sha256};
-ghost use Rattle.protocol.specs.Key.{Key};
-ghost use Rattle.protocol.specs.Shares.{View, Πin, αsum};
+ghost use Rattle.streams.specs.Streams.{block};
+ghost use Rattle.protocol.specs.Shares.{input};
 ghost use Rattle.execution.specs.Shown.{Limits};
 ghost use Rattle.execution.specs.Lists.{alphaAt, Reduced};
-ghost use Rattle.views.specs.Seen.{ForΠ};
 use execution::commit;
 use execution::shares;
 
@@ -95,8 +96,8 @@ pub fn pi_of(
     requires { ⌜ length (now kappa) ≡ 16 ⌝ }
     requires { ⌜ 3 * m * parties ≤ length (now work) ⌝ }
     requires { ⌜ m ≤ length (now sums) ⌝ }
-    ensures { λ r. ⌜ ((K : Key) (v : View) → ForΠ q m parties hidden execution (now (given .entry)) (now (work .entry)) K v → r ≡ sha256 (Πin K v (now (kappa .entry)))) ⌝ }
-    ensures { λ _. ⌜ ((K : Key) (v : View) → ForΠ q m parties hidden execution (now (given .entry)) (now (work .entry)) K v → now (sums .exit) ≡ tab m (αsum K v) ++ drop m (now (sums .entry))) ⌝ }
+    ensures { λ r. ⌜ r ≡ sha256 (input 6 (execution + 1) 0 (cat m (λ k. nums parties (alphaAt q m hidden (now (given .entry)) (now (work .entry)) k)) ++ block (now (kappa .entry)) (2 * execution))) ⌝ }
+    ensures { λ _. ⌜ now (sums .exit) ≡ tab m (λ k. sum parties (alphaAt q m hidden (now (given .entry)) (now (work .entry)) k) % q) ++ drop m (now (sums .entry)) ⌝ }
 {
     let mut s = commit::begin(6, execution + 1, 0);
     for k in 0..m {

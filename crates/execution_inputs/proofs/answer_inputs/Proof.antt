@@ -1,13 +1,12 @@
 -- `answer_inputs` meets its contract. Assumes nothing.
-use mathlib.Core.Path.{sym, _∙_}
+use mathlib.Core.Path.{refl, sym, _∙_}
 use Prim.Native.Nat.{_+_, _*_, _-_}
 use native.Mathlib.Omega.{arith}
-use lib.ListN.{length}
+use lib.ListN.{length, drop}
 use lib.Seq.{length-take-le}
 use Rattle.lists.specs.Written.{later-part, parts-joined}
 use Rattle.views.proofs.Laws.{pi-is}
-use Rattle.kept.proofs.Laws.{shared-for-Π}
-use Rattle.execution_inputs.proofs.Laws.{stated}
+use Rattle.kept.proofs.Laws.{shared-for-Π, shared-stated}
 use borrow.Author.Needs.{needs}
 use Rattle.execution_inputs.proofs.answer_inputs.Statement.{statement}
 use Rattle.execution_inputs.proofs.answer_inputs.Tie as tie
@@ -66,7 +65,7 @@ returns c =
     let mid = length (a .out .now) - (4 * a .parties + 16) in
     λ K v so.
     parts-joined (a .out .now) (n .last .1 .1 .1 .1 .1 .1 .1 .1 .1 .0) _ mid (n .kept .1 .1 .1 .1 .1 .1 .1 .1 .1 .0 ∙ length-take-le mid (a .out .now) (omega arith)) (n .ensures .0 ∙ pi-is (shared-for-Π so) (a .kappa .now))
-    (c .before .before .before .before .psi-input .ensures K v (stated so (n .last .1 .1 .1 .1 .1 .1 .1 .1 .0) (a .sums .now) (n .ensures .1)))
+    (c .before .before .before .before .psi-input .ensures K v (shared-stated so (drop (a .m) (a .sums .now)) (n .ensures .1) refl))
 
 pub answer-inputs-spec : {M : Type 1} → statement M
 answer-inputs-spec =

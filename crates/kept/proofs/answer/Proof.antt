@@ -1,8 +1,11 @@
 -- `answer` meets its contract. Assumes nothing.
+use mathlib.Core.Path.{_∙_, ap}
 use native.Mathlib.Omega.{arith}
 use lib.ListN.{drop}
-use borrow.Author.Needs.{needs}
+use Rattle.sha_core.specs.Fips180.{sha256}
+use Rattle.views.proofs.Laws.{pi-is}
 use Rattle.kept.proofs.Laws.{answered, shared-stated, shared-for-Π}
+use borrow.Author.Needs.{needs}
 use Rattle.kept.proofs.answer.Statement.{statement}
 use Rattle.kept.proofs.answer.Tie as tie
 
@@ -41,8 +44,8 @@ returns c =
     let p = c .before .before .before .before .before .before .before .before .before .before .before .before .before .before .before .before .before .before .before .before .before .pre in
     λ K v so.
     answered so (a .seed .now) (a .kappa .now) (a .outs .now) (p .1 .1 .1 .1 .1 .1 .1 .1 .1 .1 .1)
-    (c .before .before .before .before .before .before .outputs .ensures K v (shared-stated so (drop (a .m) (a .sums .now)) (c .before .before .before .before .before .before .before .before .before .before .before .before .pi-of .ensures .1 K v (shared-for-Π so)) (c .before .before .before .before .before .before .before .before .before .le32 .ensures)))
-    (c .before .before .before .before .before .before .before .before .before .before .before .before .pi-of .ensures .0 K v (shared-for-Π so)) (c .before .before .psi-of .ensures) (c .sum-is-zero .ensures)
+    (c .before .before .before .before .before .before .outputs .ensures K v (shared-stated so (drop (a .m) (a .sums .now)) (c .before .before .before .before .before .before .before .before .before .before .before .before .pi-of .ensures .1) (c .before .before .before .before .before .before .before .before .before .le32 .ensures)))
+    (c .before .before .before .before .before .before .before .before .before .before .before .before .pi-of .ensures .0 ∙ ap sha256 (pi-is (shared-for-Π so) (a .kappa .now))) (c .before .before .psi-of .ensures) (c .sum-is-zero .ensures)
 
 pub answer-spec : {M : Type 1} → statement M
 answer-spec =

@@ -9,10 +9,9 @@ use Rattle.lists.specs.Index.{cat}
 use Rattle.lists.specs.Bytes.{words, nums}
 use Rattle.lists.specs.CatLaws.{words-tab}
 use Rattle.numbers.specs.Sum.{sum}
-use Rattle.sha_core.specs.Fips180.{sha256}
 use Rattle.sha.specs.State.{Fed, fed-nil}
 use Rattle.execution.specs.Lists.{alphaAt}
-use Rattle.views.proofs.Laws.{front, sum-front, stored, fed-next, fed-last, pi-is, sums-is}
+use Rattle.views.proofs.Laws.{front, sum-front, stored, fed-next, fed-last}
 use borrow.Author.Needs.{needs}
 use Rattle.views.proofs.answers.pi_of.Statement.{statement}
 use Rattle.views.proofs.answers.pi_of.Tie as tie
@@ -121,8 +120,8 @@ returns c =
     let l = c .before .before .before .before .before .loop in
     let e : l .k ≡ start .args .m = omega arith in
     let fed = fed-last _ _ _ (l .inv .1) e (c .before .update .ensures) (c .before .before .before .block-of .ensures) in (
-      (λ K v so. c .finish .ensures _ (c .before .before .before .before .before .before .begin .ensures .stands _ _ fed) ∙ ap sha256 (pi-is so _)),
-      (λ K v so. l .inv .2 ∙ rw e (ap (λ x. x ++ drop (start .args .m) (start .args .sums .now)) (sums-is so))),
+      c .finish .ensures _ (c .before .before .before .before .before .before .begin .ensures .stands _ _ fed),
+      l .inv .2 ∙ rw e,
     )
 
 pub pi-of-spec : {M : Type 1} → statement M
