@@ -172,7 +172,7 @@ fn write_reply(
 }
 
 // The reply of an execution whose seeds and shares stand in the lists, into a list of its length.
-pub fn reply(
+fn reply(
     q: u32,
     n: usize,
     m: usize,
