@@ -192,12 +192,12 @@ pub answers : (n : ℕ) (entries : List ℕ) {q m N z base hid given : ℕ} {cs 
     → Residue q (baseOf q N n (at cs) (target n m entries)) base → Filling z ws m (weightOf q n (at cs) (cell m entries))
     → ys ≡ tab N (shownOf q m hid given base ws (take (n + m - n) (drop n cs)) al work)
     → Answers q n m N hid given cs entries al work xs (ys ++ drop N xs)
-answers n entries {q} {m} {N} {cs = cs} xs ys p hb hw e =
+answers n entries {q} {m} {N} {hid = hid} {given} {cs} {al = al} {work} xs ys p hb hw e =
     record {
       are =
-          λ K v L x S D.
+          λ L x D.
           ap (λ l. l ++ drop N xs)
-          (e ∙ tab-ext N _ _ (shown-is S D (take (n + m - n) (drop n cs)) (λ k h. part-at cs n m k h) p (record { start = hb .is; weight = hw .filled })));
+          (e ∙ tab-ext N _ _ (λ i h. shown-is hid given al work p D (take (n + m - n) (drop n cs)) (λ k y. part-at cs n m k y) (record { start = hb .is; weight = hw .filled }) i));
     }
 
 -- ---- coefficients that were drawn to the front of a list

@@ -1,4 +1,4 @@
--- The key and the execution whose outputs the code computes, and that its steps give document 01's o.
+-- The outputs that the code computes from lists, and the key and the execution for which they are document 01's o.
 -- Assumes nothing.
 use Prim.Native.Nat.{ℕ, _+_, _*_, _<_}
 use mathlib.Core.Path.{_≡_, refl, sym, _∙_, ap, ap₂}
@@ -10,7 +10,7 @@ use lib.Arith.{digits-lt}
 use lib.Dec.{eqb}
 use borrow.Author.Tests.{ne-eqb, eqb-false}
 use lib.ListN.{getD, drop}
-use Rattle.lists.specs.Tab.{tab}
+use Rattle.lists.specs.Tab.{tab, tab-ext}
 use Rattle.lists.specs.Index.{pick}
 use Rattle.numbers.specs.Mod.{cong-eq}
 use Rattle.numbers.specs.Output.{Run, out, Alike, out-ext, out-lt, out-once, weightOf, baseOf}
@@ -52,21 +52,31 @@ o-below K v L i p h = go (eqb i (v .hid))
     go true = h
     go false = out-lt p _ _ i
 
--- the numbers that document 01's formula for o takes, from lists; cs are the coefficients β and gs the coefficients γ
-unfoldable runOf : (N n m : ℕ) → (cs gs entries work : List ℕ) → Run
-runOf N n m cs gs entries work =
+-- the numbers that document 01's formula for o takes, from lists and the coefficients
+unfoldable pub runOf : (N n m : ℕ) → (β γ : ℕ → ℕ) → (entries work : List ℕ) → Run
+runOf N n m β γ entries work =
     record {
       N = N;
       n = n;
       m = m;
       A = cell m entries;
       t = target n m entries;
-      β = at cs;
-      γ = at gs;
+      β = β;
+      γ = γ;
       s = λ k i. at work (placeOf m i (2 * m + k));
       b = λ k i. at work (placeOf m i k);
       d = λ k i. at work (placeOf m i (m + k));
     }
+
+-- the same with the coefficients of execution e, counted from 0, drawn from the verifier's seed L
+unfoldable pub drawnRun : (q n m N e : ℕ) → (L entries work : List ℕ) → Run
+drawnRun q n m N e L entries work =
+    runOf N n m (number q L (firstBlock n m e)) (λ k. number q L (firstBlock n m e) (n + k)) entries work
+
+-- o(i) from lists, whatever they stand for: given for the hidden party, by document 01's formula for the others
+unfoldable pub outputAt : (q n m N hid e given : ℕ) → (L entries alphas work : List ℕ) → ℕ → ℕ
+outputAt q n m N hid e given L entries alphas work i =
+    pick (eqb i hid) given (out q (drawnRun q n m N e L entries work) (at alphas) i)
 
 -- cs holds the coefficients of execution e
 pub record Drawn (q n m e : ℕ) (L cs : List ℕ) : Type 0 where
@@ -74,18 +84,45 @@ pub record Drawn (q n m e : ℕ) (L cs : List ℕ) : Type 0 where
 
 -- the outputs stand in the first N places of what was lent
 pub record Answers (q n m N hid given : ℕ) (cs entries alphas work before after : List ℕ) : Type 0 where
-  pub are : (K : Key) (v : View) (L : List ℕ) (e : ℕ) → Stated q n m N hid e given entries alphas work K v → Drawn q n m e L cs
-      → after ≡ tab N (o K v L) ++ drop N before
+  pub are : (L : List ℕ) (e : ℕ) → Drawn q n m e L cs → after ≡ tab N (outputAt q n m N hid e given L entries alphas work) ++ drop N before
 
 -- the base and the weights of an execution
 pub record Prepared (q n m N : ℕ) (cs entries : List ℕ) (base : ℕ) (ws : List ℕ) : Type 0 where
   pub start : base ≡ baseOf q N n (at cs) (target n m entries)
   pub weight : (k : ℕ) → k < m → at ws k ≡ weightOf q n (at cs) (cell m entries) k
 
-module _ {q n m N hid e given : ℕ} {entries alphas work : List ℕ} {K : Key} {v : View} (S : Stated q n m N hid e given entries alphas work K v) {L cs : List ℕ} (D : Drawn q n m e L cs) (gs : List ℕ) (G : (k : ℕ) → k < m → at gs k ≡ at cs (n + k)) where
+-- what the steps compute is o(i)
+pub shown-is : {q n m N e base : ℕ} (hid given : ℕ) {entries L cs ws : List ℕ} (alphas work : List ℕ) → 0 < q → Drawn q n m e L cs
+    → (gs : List ℕ) → ((k : ℕ) → k < m → at gs k ≡ at cs (n + k)) → Prepared q n m N cs entries base ws → (i : ℕ)
+    → shownOf q m hid given base ws gs alphas work i ≡ outputAt q n m N hid e given L entries alphas work i
+unfolding shownOf partyOf runOf drawnRun outputAt
+shown-is {q} {n} {m} {N} {e} {base} hid given {entries} {L} {cs} {ws} alphas work p D gs G P i = ap (λ x. pick (eqb i hid) given x) here
+  where
+    steps : Run
+    steps = runOf N n m (at cs) (at gs) entries work
+
+    here : partyOf q m base ws gs alphas work i ≡ out q (drawnRun q n m N e L entries work) (at alphas) i
+    here =
+        sym (out-once p steps (at alphas) i base (at ws) (cong-eq (P .start)) (λ k h. cong-eq (P .weight k h)))
+        ∙ out-ext q steps (drawnRun q n m N e L entries work) (at alphas) (at alphas) i
+        (record {
+          N = refl;
+          n = refl;
+          m = refl;
+          A = λ l k hl hk. refl;
+          t = λ l hl. refl;
+          β = λ l hl. D .at l (omega arith);
+          γ = λ k hk. G k hk ∙ D .at (n + k) (omega arith);
+          s = λ k hk. refl;
+          b = λ k hk. refl;
+          d = λ k hk. refl;
+        })
+        (λ k h. refl)
+
+module _ {q n m N hid e given : ℕ} {entries alphas work : List ℕ} {K : Key} {v : View} (S : Stated q n m N hid e given entries alphas work K v) (L : List ℕ) where
   -- the lists' numbers of an open party are those of the execution
-  alike : (i : ℕ) → i < N → (i ≡ hid → ⊥) → Alike (runOf N n m cs gs entries work) (run K v L) i
-  unfolding runOf run
+  alike : (i : ℕ) → i < N → (i ≡ hid → ⊥) → Alike (drawnRun q n m N e L entries work) (run K v L) i
+  unfolding runOf drawnRun run
   alike i hi ho =
       record {
         N = sym (S .sized .parties);
@@ -93,8 +130,8 @@ module _ {q n m N hid e given : ℕ} {entries alphas work : List ℕ} {K : Key} 
         m = columns;
         A = λ l k hl hk. sym (S .entry (l * m + k) (omega (arith, digits-lt hl hk))) ∙ ap (λ x. K .entry (l * x + k)) columns;
         t = λ l hl. sym (S .entry (n * m + l) (omega arith)) ∙ ap₂ (λ x y. K .entry (x * y + l)) (sym (S .rows)) columns;
-        β = λ l hl. D .at l (omega arith) ∙ drawn l;
-        γ = λ k hk. G k hk ∙ D .at (n + k) (omega arith) ∙ drawn (n + k) ∙ ap (λ x. coefficient K L (v .ex) (x + k)) (sym (S .rows));
+        β = λ l hl. drawn l;
+        γ = λ k hk. drawn (n + k) ∙ ap (λ x. coefficient K L (v .ex) (x + k)) (sym (S .rows));
         s = λ k hk. ap (λ x. at work (placeOf x i (2 * x + k))) columns ∙ S .ss .at k i (below hk) party seen;
         b = λ k hk. ap₂ (λ x y. at work (placeOf x i y)) columns (sym (zero-add k)) ∙ S .bs .at k i (below hk) party seen;
         d = λ k hk. ap (λ x. at work (placeOf x i (x + k))) columns ∙ S .ds .at k i (below hk) party seen;
@@ -115,20 +152,18 @@ module _ {q n m N hid e given : ℕ} {entries alphas work : List ℕ} {K : Key} 
       drawn : (j : ℕ) → number q L (firstBlock n m e) j ≡ coefficient K L (v .ex) j
       drawn j = sym (coefficient-is K L (v .ex) j ∙ rw (S .sized .modulus, S .rows, S .sized .columns, S .ex))
 
-  -- what the steps compute is document 01's o(i)
-  pub shown-is : {base : ℕ} {ws : List ℕ} → 0 < q → Prepared q n m N cs entries base ws → (i : ℕ) → i < N
-      → shownOf q m hid given base ws gs alphas work i ≡ o K v L i
-  unfolding shownOf partyOf runOf o
-  shown-is {base} {ws} p P i hi = go (eqb i hid) refl ∙ sym plain
+  -- where the lists stand for a key and an execution, o(i) is document 01's
+  output-is : (i : ℕ) → i < N → outputAt q n m N hid e given L entries alphas work i ≡ o K v L i
+  unfolding outputAt runOf drawnRun o
+  output-is i hi = go (eqb i hid) refl ∙ sym plain
     where
       plain : o K v L i ≡ pick (eqb i hid) given (out q (run K v L) (αsum K v) i)
       plain = λ j. pick (eqb i (S .hidden j)) (S .shown j) (out (S .sized .modulus j) (run K v L) (αsum K v) i)
 
-      here : (i ≡ hid → ⊥) → partyOf q m base ws gs alphas work i ≡ out q (run K v L) (αsum K v) i
-      here ho =
-          sym (out-once p (runOf N n m cs gs entries work) (at alphas) i base (at ws) (cong-eq (P .start)) (λ k h. cong-eq (P .weight k h)))
-          ∙ out-ext q (runOf N n m cs gs entries work) (run K v L) (at alphas) (αsum K v) i (alike i hi ho) (λ k h. S .sums k (omega (arith, S .sized .columns)))
-
-      go : (t : Bool) → eqb i hid ≡ t → pick t given (partyOf q m base ws gs alphas work i) ≡ pick t given (out q (run K v L) (αsum K v) i)
+      go : (t : Bool) → eqb i hid ≡ t → pick t given (out q (drawnRun q n m N e L entries work) (at alphas) i) ≡ pick t given (out q (run K v L) (αsum K v) i)
       go true z = refl
-      go false z = here (eqb-false i hid z)
+      go false z =
+          out-ext q (drawnRun q n m N e L entries work) (run K v L) (at alphas) (αsum K v) i (alike i hi (eqb-false i hid z)) (λ k h. S .sums k (omega (arith, S .sized .columns)))
+
+  pub outputs-are : (rest : List ℕ) {xs : List ℕ} → xs ≡ tab N (outputAt q n m N hid e given L entries alphas work) ++ rest → xs ≡ tab N (o K v L) ++ rest
+  outputs-are rest is = is ∙ ap (λ (x : List ℕ). x ++ rest) (tab-ext N _ _ output-is)

@@ -10,12 +10,10 @@ ghost use Rattle.numbers.specs.Inverse.{Member, qs, Ns};
 ghost use Rattle.numbers.specs.Output.{weightOf, baseOf, termOf};
 ghost use Rattle.numbers.specs.Residue.{Residue};
 ghost use Rattle.streams.specs.Streams.{number};
-ghost use Rattle.protocol.specs.Key.{Key};
-ghost use Rattle.protocol.specs.Shares.{View, o};
 ghost use Rattle.execution.specs.Shown.{Limits};
 ghost use Rattle.execution.specs.Lists.{Reduced};
 ghost use Rattle.outputs.specs.Steps.{Below, Own, Ready, at, cell, target, termAt, firstBlock, partyOf, shownOf};
-ghost use Rattle.outputs.specs.Stated.{Stated, Answers};
+ghost use Rattle.outputs.specs.Stated.{outputAt, Answers};
 
 // The n + m coefficients of an execution, from the verifier's seed.
 pub fn coefficients(q: u32, n: usize, m: usize, execution: usize, seed: &[u8], out: &mut [u32])
@@ -325,8 +323,7 @@ pub fn outputs(
     requires { ⌜ 3 * m * parties ≤ length (now work) ⌝ }
     requires { ⌜ Reduced q m parties hidden (now work) ⌝ }
     requires { ⌜ parties ≤ length (now out) ⌝ }
-    ensures { λ _. ⌜ ((K : Key) (v : View) → Stated q n m parties hidden execution given (now (entries .entry)) (now (alphas .entry)) (now (work .entry)) K v
-        → now (out .exit) ≡ tab parties (o K v (now (seed .entry))) ++ drop parties (now (out .entry))) ⌝ }
+    ensures { λ _. ⌜ now (out .exit) ≡ tab parties (outputAt q n m parties hidden execution given (now (seed .entry)) (now (entries .entry)) (now (alphas .entry)) (now (work .entry))) ++ drop parties (now (out .entry)) ⌝ }
 {
     let mut cs = [0u32; 160];
     coefficients(q, n, m, execution, seed, &mut cs);

@@ -2,7 +2,7 @@
 use mathlib.Core.Path.{sym, subst}
 use Prim.Native.Nat.{ℕ}
 use native.Mathlib.Omega.{arith}
-use Rattle.outputs.specs.Stated.{Stated}
+use Rattle.outputs.specs.Stated.{Stated, outputs-are}
 use Rattle.execution_inputs.proofs.Laws.{psi-in}
 use borrow.Author.Needs.{needs}
 use Rattle.execution_inputs.proofs.psi_input.Statement.{statement}
@@ -39,7 +39,7 @@ returns c =
     let p = c .before .before .before .before .before .before .before .before .before .before .before .before .before .before .before .before .before .before .pre in
     λ K v so.
     let st = subst (λ (x : ℕ). Stated (a .q) (a .n) (a .m) (a .parties) (a .hidden) (a .execution) x (a .entries .now) (a .sums .now) (a .work .now) K v) (sym (c .before .before .before .before .before .before .before .before .before .le32 .ensures)) so in
-    psi-in st (a .kappa .now) (a .seed .now) (a .outs .now) (p .1 .1 .1 .1 .1 .1 .1 .1 .1 .1 .1 .0) (c .before .before .before .before .before .before .before .outputs .ensures K v st) (c .before .before .put-with-block .ensures)
+    psi-in st (a .kappa .now) (a .seed .now) (a .outs .now) (p .1 .1 .1 .1 .1 .1 .1 .1 .1 .1 .1 .0) (outputs-are st (a .seed .now) _ (c .before .before .before .before .before .before .before .outputs .ensures)) (c .before .before .put-with-block .ensures)
 
 pub psi-input-spec : {M : Type 1} → statement M
 psi-input-spec =

@@ -27,7 +27,7 @@ same-length : tie.Need-same-length
 same-length c = search needs
 
 returns : tie.Need-returns
-returns c = λ K v S. c .before .before .outputs-from .ensures .are K v _ _ S (drawn-at _ _ _ _ _ _ (c .before .before .before .before .before .before .coefficients .ensures))
+returns c = c .before .before .outputs-from .ensures .are _ _ (drawn-at _ _ _ _ _ _ (c .before .before .before .before .before .before .coefficients .ensures))
 
 pub outputs-spec : {M : Type 1} → statement M
 outputs-spec =

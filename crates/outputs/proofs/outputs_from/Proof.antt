@@ -1,4 +1,4 @@
--- `outputs_from`: base and weights first, then every party; the result is document 01's o for whatever the lists stand for. Assumes nothing.
+-- `outputs_from`: base and weights first, then every party. Assumes nothing.
 use borrow.Author.Needs.{needs}
 use native.Mathlib.Omega.{arith}
 use mathlib.Core.Path.{sym}

@@ -2,6 +2,7 @@
 use Rattle.lists.specs.Tab.{tab}
 use Rattle.numbers.specs.Inverse.{q-positive}
 use Rattle.protocol.specs.Shares.{o}
+use Rattle.outputs.specs.Stated.{outputs-are}
 use Rattle.response.proofs.Laws.{fills, held-stated}
 use borrow.Author.Needs.{needs}
 use Rattle.response.proofs.dealt.dealt_outputs.Statement.{statement}
@@ -30,7 +31,7 @@ returns c =
     let p = c .before .before .before .before .before .before .before .before .before .before .before .before .pre in
     λ K v so.
     fills (tab (a .parties) (o K v (a .seed .now))) (a .outs .now) _ (a .parties) (p .1 .1 .1 .1 .1 .1 .1 .1)
-    (c .before .before .outputs .ensures K v (held-stated so (q-positive (p .0 .q-listed)) (c .before .before .before .before .before .before .alpha-sums .ensures)))
+    (outputs-are (held-stated so (q-positive (p .0 .q-listed)) (c .before .before .before .before .before .before .alpha-sums .ensures)) (a .seed .now) _ (c .before .before .outputs .ensures))
 
 pub dealt-outputs-spec : {M : Type 1} → statement M
 dealt-outputs-spec =
