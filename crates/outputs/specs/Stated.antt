@@ -78,6 +78,27 @@ unfoldable pub outputAt : (q n m N hid e given : ℕ) → (L entries alphas work
 outputAt q n m N hid e given L entries alphas work i =
     pick (eqb i hid) given (out q (drawnRun q n m N e L entries work) (at alphas) i)
 
+-- of the list of α(k), the first m count
+pub output-ext : (q n m N hid e given : ℕ) (L entries : List ℕ) (a c : List ℕ) (work : List ℕ) → ((k : ℕ) → k < m → at a k ≡ at c k) → (i : ℕ)
+    → outputAt q n m N hid e given L entries a work i ≡ outputAt q n m N hid e given L entries c work i
+unfolding outputAt drawnRun runOf
+output-ext q n m N hid e given L entries a c work h i =
+    ap (λ x. pick (eqb i hid) given x)
+    (out-ext q (drawnRun q n m N e L entries work) (drawnRun q n m N e L entries work) (at a) (at c) i
+    (record {
+      N = refl;
+      n = refl;
+      m = refl;
+      A = λ l k hl hk. refl;
+      t = λ l hl. refl;
+      β = λ l hl. refl;
+      γ = λ k hk. refl;
+      s = λ k hk. refl;
+      b = λ k hk. refl;
+      d = λ k hk. refl;
+    })
+    h)
+
 -- cs holds the coefficients of execution e
 pub record Drawn (q n m e : ℕ) (L cs : List ℕ) : Type 0 where
   pub at : (j : ℕ) → j < n + m → getD cs j 0 ≡ number q L (firstBlock n m e) j
@@ -153,7 +174,7 @@ module _ {q n m N hid e given : ℕ} {entries alphas work : List ℕ} {K : Key} 
       drawn j = sym (coefficient-is K L (v .ex) j ∙ rw (S .sized .modulus, S .rows, S .sized .columns, S .ex))
 
   -- where the lists stand for a key and an execution, o(i) is document 01's
-  output-is : (i : ℕ) → i < N → outputAt q n m N hid e given L entries alphas work i ≡ o K v L i
+  pub output-is : (i : ℕ) → i < N → outputAt q n m N hid e given L entries alphas work i ≡ o K v L i
   unfolding outputAt runOf drawnRun o
   output-is i hi = go (eqb i hid) refl ∙ sym plain
     where

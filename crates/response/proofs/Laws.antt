@@ -11,7 +11,7 @@ use lib.Dec.{eqb}
 use lib.ListN.{length, getD, take, drop, drop-of-length-le, length-append, length-drop, List·getD-append}
 use lib.Seq.{take-at, drop-at, drop-drop, take-all}
 use Rattle.lists.specs.Written.{two-parts}
-use Rattle.lists.specs.Tab.{tab, tab-at, tab-length, Filling}
+use Rattle.lists.specs.Tab.{tab, tab-at, tab-ext, tab-length, Filling}
 use Rattle.lists.specs.Index.{pick, part}
 use Rattle.lists.specs.Bytes.{le4, words, nums}
 use Rattle.lists.specs.CatLaws.{nums-ext, nums-split, part-length}
@@ -28,7 +28,7 @@ use Rattle.execution.specs.Prepared.{Dealt, lastCount}
 use Rattle.execution.proofs.Laws.{inside}
 use Rattle.views.specs.Seen.{ForH}
 use Rattle.views.proofs.Laws.{words-part, gamma-is}
-use Rattle.outputs.specs.Stated.{Stated}
+use Rattle.outputs.specs.Stated.{Stated, outputAt, output-ext, output-is}
 use Rattle.response.specs.Held.{Held, alphaSum}
 use Rattle.response.specs.Replies.{alphaShare, lastNumbers, numbersOf, replyOf, DealtReply}
 
@@ -76,8 +76,8 @@ module _ {q n m N e : ℕ} {entries work : List ℕ} {K : Key} {v : View} (so : 
       ∙ ap (λ x. x % q) (sum-same (sym (so .sized .parties)) (λ i y. alpha-is i k y h))
       ∙ ap (λ p. sum (K .N) (α K v k) % p) (sym (so .sized .modulus))
 
-  pub held-stated : {w : ℕ} {sums : List ℕ} → 0 < q → Filling w sums m (alphaSum q m N work) → Stated q n m N N e 0 entries sums work K v
-  held-stated p f =
+  held-stated : 0 < q → Stated q n m N N e 0 entries (tab m (alphaSum q m N work)) work K v
+  held-stated p =
       record {
         sized = so .sized;
         rows = so .rows;
@@ -88,13 +88,23 @@ module _ {q n m N e : ℕ} {entries work : List ℕ} {K : Key} {v : View} (so : 
         bs = so .bs;
         ds = so .ds;
         ss = so .ss;
-        sums = λ k h. let below : k < m = omega (arith, so .sized .columns) in f .filled k below ∙ sum-is p k below;
+        sums = λ k h. let below : k < m = omega (arith, so .sized .columns) in tab-at m (alphaSum q m N work) k below ∙ sum-is p k below;
       }
 
--- the outputs fill their list
-pub fills : (xs before after : List ℕ) (n : ℕ) → length before ≡ n → after ≡ xs ++ drop n before → after ≡ xs
-fills xs before after n long is =
-    is ∙ (ap (λ (x : List ℕ). xs ++ x) (drop-of-length-le before {i = n} (omega (arith, long))) ∙ append-nil xs)
+  -- the outputs are document 01's
+  pub held-outputs : 0 < q → (L : List ℕ) {outs : List ℕ} → outs ≡ tab N (outputAt q n m N N e 0 L entries (tab m (alphaSum q m N work)) work)
+      → outs ≡ tab N (o K v L)
+  held-outputs p L is = is ∙ tab-ext N _ _ (output-is (held-stated p) L)
+
+-- the outputs fill their list, and of the sums that they take only those of α count
+pub fills : (q n m N e : ℕ) (L entries work before : List ℕ) {w : ℕ} {sums after : List ℕ} → Filling w sums m (alphaSum q m N work) → length before ≡ N
+    → after ≡ tab N (outputAt q n m N N e 0 L entries sums work) ++ drop N before
+    → after ≡ tab N (outputAt q n m N N e 0 L entries (tab m (alphaSum q m N work)) work)
+fills q n m N e L entries work before {sums = sums} f long is =
+    is
+    ∙ (ap (λ (x : List ℕ). tab N (outputAt q n m N N e 0 L entries sums work) ++ x) (drop-of-length-le before {i = N} (omega (arith, long)))
+    ∙ (append-nil (tab N (outputAt q n m N N e 0 L entries sums work))
+    ∙ tab-ext N _ _ (λ i h. output-ext q n m N N e 0 L entries sums (tab m (alphaSum q m N work)) work (λ k y. f .filled k y ∙ sym (tab-at m (alphaSum q m N work) k y)) i)))
 
 -- an entry of a table that stands in front
 pub front-at : (n : ℕ) (f : ℕ → ℕ) (ys rest : List ℕ) (i : ℕ) → i < n → ys ≡ tab n f → getD (ys ++ rest) i 0 ≡ f i

@@ -6,11 +6,10 @@ ghost use lib.ListN.{length};
 ghost use Rattle.lists.specs.Tab.{tab, Filling};
 ghost use Rattle.numbers.specs.Inverse.{Member, Ns};
 ghost use Rattle.numbers.specs.Residue.{Residue};
-ghost use Rattle.protocol.specs.Key.{Key};
-ghost use Rattle.protocol.specs.Shares.{View, o};
 ghost use Rattle.execution.specs.Shown.{Limits};
 ghost use Rattle.execution.specs.Lists.{Reduced};
-ghost use Rattle.response.specs.Held.{Held, alphaSum};
+ghost use Rattle.outputs.specs.Stated.{outputAt};
+ghost use Rattle.response.specs.Held.{alphaSum};
 use execution::shares;
 
 // α(k): the sum of all s less the sum of all b.
@@ -60,7 +59,7 @@ pub fn dealt_outputs(
     requires { ⌜ 3 * m * parties ≤ length (now work) ⌝ }
     requires { ⌜ Reduced q m parties parties (now work) ⌝ }
     requires { ⌜ length (now outs) ≡ parties ⌝ }
-    ensures { λ _. ⌜ ((K : Key) (v : View) → Held q n m parties execution (now (entries .entry)) (now (work .entry)) K v → now (outs .exit) ≡ tab parties (o K v (now (seed .entry)))) ⌝ }
+    ensures { λ _. ⌜ now (outs .exit) ≡ tab parties (outputAt q n m parties parties execution 0 (now (seed .entry)) (now (entries .entry)) (tab m (alphaSum q m parties (now (work .entry)))) (now (work .entry))) ⌝ }
 {
     let mut sums = [0u32; 128];
     alpha_sums(q, m, parties, work, &mut sums);

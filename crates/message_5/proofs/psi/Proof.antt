@@ -1,5 +1,7 @@
 -- `psi` deals the execution and hashes its outputs. Assumes nothing.
 use native.Mathlib.Omega.{arith}
+use Rattle.numbers.specs.Inverse.{q-positive}
+use Rattle.response.proofs.Laws.{held-outputs}
 use Rattle.message_5.proofs.Laws.{psi-of}
 use borrow.Author.Needs.{needs}
 use Rattle.message_5.proofs.psi.Statement.{statement}
@@ -32,8 +34,9 @@ same-length-3 c = search needs
 
 returns : tie.Need-returns
 returns c =
+    let z : tie.Start = c .before .before .before .before .before .before .before .before .before .before .before .before .before .before .before .before .before .before .before .before .before .before in
     let d = c .before .before .before .before .before .before .before .before .before .before .before .deal .ensures in
-    (psi-of (d .0) (c .before .before .before .before .dealt-outputs .ensures) (c .psi-of .ensures), (search needs, (search needs, search needs)))
+    (psi-of (d .0) (λ K v so. held-outputs so (q-positive (z .pre .0 .q-listed)) (z .args .seed .now) (c .before .before .before .before .dealt-outputs .ensures)) (c .psi-of .ensures), (search needs, (search needs, search needs)))
 
 pub psi-spec : {M : Type 1} → statement M
 psi-spec =

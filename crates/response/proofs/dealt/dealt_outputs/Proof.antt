@@ -1,9 +1,5 @@
 -- `dealt::dealt_outputs` meets its contract. Assumes nothing.
-use Rattle.lists.specs.Tab.{tab}
-use Rattle.numbers.specs.Inverse.{q-positive}
-use Rattle.protocol.specs.Shares.{o}
-use Rattle.outputs.specs.Stated.{outputs-are}
-use Rattle.response.proofs.Laws.{fills, held-stated}
+use Rattle.response.proofs.Laws.{fills}
 use borrow.Author.Needs.{needs}
 use Rattle.response.proofs.dealt.dealt_outputs.Statement.{statement}
 use Rattle.response.proofs.dealt.dealt_outputs.Tie as tie
@@ -29,9 +25,8 @@ returns : tie.Need-returns
 returns c =
     let a = c .before .before .before .before .before .before .before .before .before .before .before .before .args in
     let p = c .before .before .before .before .before .before .before .before .before .before .before .before .pre in
-    λ K v so.
-    fills (tab (a .parties) (o K v (a .seed .now))) (a .outs .now) _ (a .parties) (p .1 .1 .1 .1 .1 .1 .1 .1)
-    (outputs-are (held-stated so (q-positive (p .0 .q-listed)) (c .before .before .before .before .before .before .alpha-sums .ensures)) (a .seed .now) _ (c .before .before .outputs .ensures))
+    fills (a .q) (a .n) (a .m) (a .parties) (a .execution) (a .seed .now) (a .entries .now) (a .work .now) (a .outs .now)
+    (c .before .before .before .before .before .before .alpha-sums .ensures) (p .1 .1 .1 .1 .1 .1 .1 .1) (c .before .before .outputs .ensures)
 
 pub dealt-outputs-spec : {M : Type 1} → statement M
 dealt-outputs-spec =

@@ -2,8 +2,9 @@
 use mathlib.Core.Path.{sym}
 use lib.ListN.{replicate}
 use lib.Seq.{length-take-le}
+use Rattle.numbers.specs.Inverse.{q-positive}
 use Rattle.protocol.specs.Shares.{o}
-use Rattle.response.proofs.Laws.{front-at}
+use Rattle.response.proofs.Laws.{front-at, held-outputs}
 use borrow.Author.Needs.{needs}
 use Rattle.response.proofs.reply.output_of.Statement.{statement}
 use Rattle.response.proofs.reply.output_of.Tie as tie
@@ -29,7 +30,7 @@ returns : tie.Need-returns
 returns c =
     let a = c .before .before .before .before .before .before .args in
     λ K v so.
-    front-at (a .parties) (o K v (a .seed .now)) (c .before .dealt-outputs .last .1 .1 .1 .1 .1 .1 .1 .1 .0) _ (a .party) (c .before .before .before .before .before .before .pre .1 .1 .1 .1 .0) (c .before .dealt-outputs .ensures K v so)
+    front-at (a .parties) (o K v (a .seed .now)) (c .before .dealt-outputs .last .1 .1 .1 .1 .1 .1 .1 .1 .0) _ (a .party) (c .before .before .before .before .before .before .pre .1 .1 .1 .1 .0) (held-outputs so (q-positive (c .before .before .before .before .before .before .pre .0 .q-listed)) (a .seed .now) (c .before .dealt-outputs .ensures))
 
 pub output-of-spec : {M : Type 1} → statement M
 output-of-spec =
