@@ -145,13 +145,37 @@ seen_anew("h: a call more", f"{HEADER} declares what crate badge has not", HEADE
 seen_anew("h: another name for tests", "primitives.h does not declare", "tests/c/primitives.h", put(r"uint64_t first", "uint64_t start"))
 change("h: the manual says more", f"header {HEADER} has changed", HEADER, put("0: accepted", "0: accepted, and the badge knows s"))
 
+# i. Code that these checks read otherwise than Rattle does, and what stands in for a file of the gate.
+
+PAIRS, ZERO = "crates/protocol/src/pairs.rt", "fn zero() -> u32\n    ensures { λ%s } { 0 } /*\n}\n{\n}\n// */\n"
+seen_anew("i: a theorem in a comment that a text in quotes hides", "can hide code", PAIRS,
+          lambda text: text.replace("pub fn demand_3()", 'const NOTE: [u8; 4] = *b"\n// "; /*\npub fn demand_3()') + "// */\n")
+seen_anew("i: a comment of antt's in a clause", "can hide code", JUDGE, add(ZERO % " r. ⌜ r ≡ 0 ⌝ {-\n// -}"))
+seen_anew("i: a clause over what looks like a comment", "a line of comment in a clause", JUDGE, add(ZERO % "\n// . ⌜ // ≡ 0 ⌝"))
+seen_anew("i: code in a contract", "can hide code", JUDGE, put(r"⌜ r ≡", "⌜ ⟦zero()⟧ ≡"))
+seen_anew("i: an export in another form", "exports a function in another form", JUDGE, put(r'^pub extern "C" fn', 'pub extern "C"\nfn'))
+seen_anew("i: eqb declared in a section", "declares eqb", WORDS, put(r"^(module _ .*\n)", r"\1  eqb : ℕ → ℕ → Bool\n  eqb x y = true\n\n"))
+seen_anew("i: length bound by a let", "declares length", WORDS, put(r"^judge key x = ", "judge key x = let length = x in "))
+seen_anew("i: a module below a file of definitions", "has a module below it", WORDS, put(r"^(use .*\n)(?!use)", r"\1mod Run\n"))
+seen_anew("i: a theorem with `requires`", "demand_3 is an entry point", PAIRS, put(r"^pub fn demand_3\(\)$", r"pub fn demand_3()\n    requires { ⌜ ⊥ ⌝ }"))
+seen_anew("i: a type on a line with another item", "has a module or type u32", JUDGE, add("const NONE: u8 = 0; pub struct u32(u64);\n"))
+seen_anew("i: a macro for a call", "neither a number nor a call", HEADER, add("#define badge_judge(a, b, c, d) 0\n"))
+seen_anew("i: a file that hides differences", "make reads .gitattributes", ".gitattributes", lambda text: "tools/pinned.txt -diff\n")
+seen_anew("i: another page", "another page", "docs/GUARANTEES.md", lambda text: "Secrecy of s is proved.\n")
+change("i: a program that does more", "program crates/verdict/src/main.rt has changed", "crates/verdict/src/main.rt", put(r"\bmain\(\) \{", "main() {\n"))
+change("i: README claims more", "page README.md has changed", "README.md", add("\nAn accepted file proves knowledge.\n"))
+change("i: a module without source", "tests has changed .*json.pyc", "reference/json.pyc", lambda text: "#")
+change("i: a header that gcc takes first", "tests has changed .*badge.h.gch", "include/badge.h.gch", lambda text: "#")
+change("i: a pin that stands twice", "is not what `make pin` writes", "tools/pinned.txt", add("\n== contract protocol::pairs::demand_3\n"))
+change("i: an edit of a proof", "edits a proof", EDIT, put(r"^file: .*$", "file: proofs/Lib.antt"), check=TIDY)
+
 # What `make tidy` sees besides.
 
 change("tidy: a name that nothing uses", "takes _⊎_ and does not use it", JUDGE, add("ghost use mathlib.Core.Logic.{_⊎_};\n"), check=TIDY)
 
 
 def checked(folder, check, *words):
-    run = subprocess.run([sys.executable, "-B", "-S", check, *words], cwd=folder, capture_output=True, text=True)
+    run = subprocess.run([sys.executable, "-I", "-B", "-S", check, *words], cwd=folder, capture_output=True, text=True)
     return run.returncode, run.stdout + run.stderr
 
 
@@ -208,7 +232,8 @@ RUNS = (
     ("rt ends badly and says nothing of it", "3 passed, 0 failed", 2, "none", False, "the gate stops: rt ci ended with status 2"),
     ("rt proves nothing", "0 passed, 0 failed", 0, "none", False, "the gate stops: rt ci ended with status 0"),
     ("rt says nothing", "", 0, "none", False, "the gate stops: rt ci ended with status 0"),
-    ("a check fails", "3 passed, 0 failed", 0, "checks", False, "the gate stops: make checks failed"),
+    ("a check fails", "3 passed, 0 failed", 0, "tools/check_claims.py", False, "the gate stops: tools/check_claims.py failed"),
+    ("a theorem is not proved", "3 passed, 0 failed", 0, "theorem", False, "the gate stops: rt proved no b::t"),
     ("a test fails", "3 passed, 0 failed", 0, "runs", False, "the gate stops: make --jobs=2 --output-sync runs failed"),
 )
 
@@ -225,13 +250,16 @@ def try_gate():
         (folder / ".ci").mkdir()
         shutil.copy(ROOT / ".ci/run", folder / ".ci/run")
         (folder / "bin").mkdir()
+        (folder / "tools").mkdir()
+        (folder / "tools/pinned.txt").write_text("\n== contract b::t\n")
         for shell, (label, last, status, failing, good, end) in itertools.product(SHELLS, RUNS):
-            stand_in(folder / "bin/rt", f"echo working; echo told >&2; [ -z '{last}' ] || echo '{last}'; exit {status}\n")
+            stand_in(folder / "bin/python3", f"for last; do :; done; [ \"$last\" != {failing} ]\n")
+            stand_in(folder / "bin/rt", f"echo working; [ {failing} = theorem ] || echo 'fn b::t: proved'; echo told >&2; [ -z '{last}' ] || echo '{last}'; exit {status}\n")
             stand_in(folder / "bin/make", f"for last; do :; done; echo \"made $last\"; [ \"$last\" != {failing} ]\n")
             run = subprocess.run([shell, ".ci/run"], cwd=folder, env={**os.environ, "CI": "true", "PATH": f"{folder}/bin:{os.environ['PATH']}"},
                                  stdin=subprocess.DEVNULL, stdout=subprocess.PIPE, stderr=subprocess.STDOUT, text=True)
             lines = run.stdout.splitlines()
-            if (run.returncode == 0) != good or lines[-1:] != [end] or (good and lines != ["made checks", "working", "told", "made runs", end]):
+            if (run.returncode == 0) != good or lines[-1:] != [end] or (good and lines != ["working", "fn b::t: proved", "told", "made runs", end]):
                 failures.append(f"the gate by {shell}, where {label}: status {run.returncode} and\n{run.stdout}")
     return failures
 

@@ -10,16 +10,20 @@
 - README.md's table and the header have each number of crates/refusals/src/lib.rt with its name and meaning, and the vectors each number.
 - The headers declare exactly the functions that C calls, each with its parameters' names, order and types.
 - The words of contracts and definitions mean what the kit says (tools/words.py).
+- No other page claims anything, and no file stands in for one that make, Python or a reviewer reads.
 - What the claims rest on is as it was reviewed (tools/pins.py, tools/pinned.txt)."""
+import pathlib
 import re
 import sys
 
-import pins
+sys.path.append(str(pathlib.Path(__file__).resolve().parent))     # last: nothing beside this file stands in for Python's own
+import pins  # noqa: E402
 import repo
 import words
 from repo import ROOT, expect, functions, listed, name_of, read
 
 PAGES = ["docs/CLAIMS.md", "README.md"]
+KNOWN_PAGES = ["README.md", "docs/CLAIMS.md", "docs/DECISIONS.md", "reference/README.md", "tests/vectors/README.md"]
 BUILT = ("target/", "dist/", "reference/build")
 TABLE_START, TABLE_END = "<!-- numbers -->\n", "<!-- end of numbers -->\n"
 ENTRIES = ["judge::run::judge", "pair::reader::pair", *(f"message_{n}::message_{n}" for n in (1, 3, 5, 7))]
@@ -42,10 +46,11 @@ def named_functions(page):
 # Functions and what the pages name.
 
 def check_functions(found):
+    named = named_functions("docs/CLAIMS.md")
     for name, function in found.items():
         called = (function.file.name, function.name) != ("main.rt", "main")
         expect(function.has("ensures") or not called, f"{name} has no `ensures`: whoever calls it learns nothing")
-        entry = function.is_for_c() or name in ENTRIES
+        entry = function.is_for_c() or name in ENTRIES or (name in named and not function.parameters())
         expect(not (entry and function.has("requires")), f"{name} is an entry point and has a `requires`")
     for name in ENTRIES:
         expect(name in found, f"the entry point {name} is not there")
@@ -96,8 +101,10 @@ def check_commands():
             expect(f" {n}(" in header, f"{page} names {n}, which no header declares")
         for n in re.findall(r"(?:`|^ +)make ([a-z-]+)", read(page), re.M):
             expect(n in known, f"{page} names `make {n}`, which the Makefile has not")
-    for other in ("GNUmakefile", "makefile"):
-        expect(not (ROOT / other).exists(), f"make reads {other} in place of the Makefile")
+    for other in (*(x + y for x in ("", "reference/") for y in ("GNUmakefile", "makefile", "Makefile.sh", "RCS", "SCCS")), ".gitattributes"):
+        expect(not (ROOT / other).exists(), f"make reads {other} in place of the Makefile, or a reviewer is shown less by it")
+    pages = [name_of(x) for x in ROOT.rglob("*.md") if not name_of(x).startswith(("docs/landings/", "target/"))]
+    expect(sorted(pages) == sorted(KNOWN_PAGES), f"another page than {KNOWN_PAGES}")
 
 
 # The headers.
@@ -128,6 +135,9 @@ def check_headers(found):
         for x in sorted(set(said) - set(right)):
             expect(False, f"{header} declares what crate {crate} has not: {x}")
         expect(len(said) == len(set(said)), f"{header} declares a function twice")
+        rest = re.sub(r"^\w+ \w+\([^;{}]*\);|^enum(?: \w+)? \{[^{}]*\};|^#(?:ifndef|define) \w+_H$|^#include <std(?:def|int)\.h>$", "", text, flags=re.M)
+        rest = rest.replace('#ifdef __cplusplus\nextern "C" {\n#endif', "").replace("#ifdef __cplusplus\n}\n#endif", "").replace("#endif", "", 1)
+        expect(not rest.strip(), f"{header} has what is neither a number nor a call: {rest.strip()[:80]}")
 
 
 # The numbers of refusals.

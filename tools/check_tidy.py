@@ -46,6 +46,8 @@ def check_edit(edit):
     for line in edit.read_text().splitlines():
         if line.startswith("file: "):
             file = edit.parent.parent / line[6:].strip()
+            if not line[6:].startswith(("src/", "specs/")):
+                wrong.append(f"{edit.relative_to(ROOT)} edits a proof, and not code or a definition")
         elif line.startswith("old: ") and file.read_text().count(line[5:]) != 1:
             wrong.append(f"{edit.relative_to(ROOT)}: this does not stand once in {file.name}: {line[5:]}")
 

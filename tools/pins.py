@@ -10,7 +10,8 @@ from repo import OURS, ROOT, expect, functions, listed, name_of, read, use_lines
 PINNED = ROOT / "tools" / "pinned.txt"
 CLAIMS = "docs/CLAIMS.md"
 TESTS = ("Makefile", ".ci/*", "tools/**/*", "tests/**/*", "reference/**/*", "include/**/*", "examples/**/*", "crates/*/stdout", "crates/*/data/*")
-APART = ("tools/pinned.txt", "tests/vectors/", "reference/build/", "include/badge.h")     # pinned by themselves, or built
+APART = ("tools/pinned.txt", "include/badge.h")     # pinned by themselves
+BUILT = re.compile(r"^reference/build/|/__pycache__/|^tests/vectors/[^/]*\.jsonl$")
 REVIEW = {
     "contract": "read it beside the sentence of docs/CLAIMS.md that names it, and this sentence's premises and limits",
     "uses": "see that each word of the file's contracts still means what docs/CLAIMS.md says of them",
@@ -22,6 +23,8 @@ REVIEW = {
     "vectors": "see that none was lost that another does not replace",
     "edits": "see that the check still refuses what each edit was to rule out",
     "target": "see that `make tests` still runs all that it ran",
+    "program": "no contract says what it does: read it beside the sentence of docs/CLAIMS.md on the program",
+    "page": "see that it claims no more than docs/CLAIMS.md",
     "tests": "see that the files still test what they tested",
 }
 
@@ -71,10 +74,11 @@ def reached(named):
 
 def declared(crate, name):
     """The text of a type that the crate's code declares."""
-    for file in sorted((ROOT / "crates" / crate / "src").rglob("*.rt")):
-        m = re.search(rf"^pub (?:struct|enum) {name}\b.*?^\}}", file.read_text(), re.M | re.S)
-        if m:
-            return m.group(0)
+    found = [m.group(0) for file in sorted((ROOT / "crates" / crate / "src").rglob("*.rt"))
+             for m in re.finditer(rf"^pub (?:struct|enum) {name}\b.*?^\}}", file.read_text(), re.M | re.S)]
+    if len(found) == 1:
+        return found[0]
+    expect(False, f"the type {name} of crate {crate} is not there once")
     return "not found"
 
 
@@ -129,6 +133,7 @@ def pinned_claims():
         if text:
             yield title + (f" ({seen[title]})" if seen[title] > 1 else ""), digest(" ".join(text).encode())
     yield "claims in order", "\n".join(order)
+    yield from ((f"page {page}", digest(read(page).encode())) for page in (CLAIMS, "README.md", "docs/DECISIONS.md"))
 
 
 # Tests.
@@ -183,8 +188,9 @@ def targets():
 def pinned_tests():
     known = rules()
     yield from ((f"target {target}", known[target]) for target in targets())
-    files = [x for form in TESTS for x in sorted(ROOT.glob(form)) if x.is_file() and x.suffix not in (".md", ".pyc")]
-    yield "tests", "\n".join(f"{name_of(x)} {digest(x.read_bytes())}" for x in files if not name_of(x).startswith(APART))
+    files = [x for form in TESTS for x in sorted(ROOT.glob(form)) if x.is_file() or x.is_symlink()]
+    yield "tests", "\n".join(f"{name_of(x)} {digest(x.read_bytes() if x.is_file() else b'')}" for x in files if name_of(x) not in APART and not BUILT.search(name_of(x)))
+    yield from ((f"program {name_of(x)}", digest(x.read_bytes())) for x in sorted((ROOT / "crates").glob("*/src/main.rt")))
 
 
 # The file.
@@ -194,9 +200,13 @@ def pins(named):
     return dict([*pinned_contracts(named), *pinned_claims(), *header, *pinned_vectors(), *pinned_edits(), *pinned_tests()])
 
 
-def write(named):
+def shown(new):
     head = "What was reviewed. `make pin` writes this file; read its difference before you commit it.\n"
-    PINNED.write_text(head + "".join(f"\n== {title}\n{text.rstrip()}\n" for title, text in pins(named).items()))
+    return head + "".join(f"\n== {title}\n{text.rstrip()}\n" for title, text in new.items())
+
+
+def write(named):
+    PINNED.write_text(shown(pins(named)))
 
 
 def difference(old, new):
@@ -219,4 +229,5 @@ def check(named):
         else:
             continue
         expect(False, f"{title} {change}: {REVIEW[title.split()[0]]}; then run `make pin`")
+    expect(PINNED.exists() and PINNED.read_text() == shown(new), "tools/pinned.txt is not what `make pin` writes")
     return collections.Counter(title.split()[0] for title in new)

@@ -4,7 +4,7 @@ Every `use` line is of a form that these checks read. A word of the kit comes fr
 brings a word so spelled, no file of specs/ declares one, and no contract binds one that its file takes."""
 import re
 
-from repo import CODE_USE, GHOST_USE, OURS, SPEC_USE, TOKEN, code, expect, files, functions, listed, name_of, uses
+from repo import CODE_USE, GHOST_USE, OURS, SPEC_USE, TOKEN, closing, code, expect, files, functions, listed, name_of, uses
 
 KIT = ("Prim", "mathlib", "native", "lib", "mir", "borrow", *(f"Rattle.{x}" for x in ("std", "bytes", "check", "io", "os", "libc")))
 HOMES = {word: home for home, row in {
@@ -21,7 +21,7 @@ HOMES = {word: home for home, row in {
 TYPES = "u8 u16 u32 u64 usize i8 i16 i32 i64 isize bool f32 f64".split()
 # Comments that are not lines of their own, names in « », raw strings, characters that are not shown.
 UNSEEN = r"[^\S\n ]|[\u00ad\u200b-\u200f\u2028-\u202e\u2060-\u206f\ufeff]"
-HIDDEN = {".rt": rf"//|/\*|«|\bb?r#*\"|\bmod\s+\w+\s*\{{|{UNSEEN}", ".antt": rf"(?<!\S)--|\{{-|«|\"|{UNSEEN}"}
+HIDDEN = {".rt": rf"⟦|//|/\*|«|\bb?r#*\"|\bmod\s+\w+\s*\{{|{UNSEEN}", ".antt": rf"(?<!\S)--|\{{-|«|\"|{UNSEEN}"}
 # In scope with no `use` line.
 GIVEN = "⊥ ¬_ absurd Dec yes no Unit tt Id Path IsProp IsSet ∥_∥₁ ∣_∣₁ _×_ _→_ _↔_ Type now ⌜_⌝ _∗_ 𝓤 _>>=_ _>>_".split()
 # What patterns are made of.
@@ -82,8 +82,25 @@ def check_readable(file, text):
     expect(text.count("Rattle·") == sum("Rattle·" in use.path for use in uses(file)), f"{name} names a module outside its `use` lines")
     hidden = re.search(HIDDEN[file.suffix], text)
     expect(not hidden, f"{name} has what can hide code from these checks: {hidden and ascii(hidden.group(0))}")
-    for m in re.finditer(r"^\s*(?:pub\s+)?(?:mod|struct|enum|type)\s+([^\s;({]+)", text, re.M):
+    for m in re.finditer(r"\b(?:mod|struct|enum|type|use\s[^;]*\bas)\s+([^\s;({]+)", text, re.M):
         expect(not is_kit(m.group(1)) and m.group(1) not in TYPES, f"{name} has a module or type {m.group(1)}, which hides the kit's")
+
+
+QUOTED = re.compile(r"b'(?:\\.|[^'\\\n])'|b?\"(?:\\.|[^\"\\\n])*\"")
+CLAUSE = re.compile(r"\b(?:requires|ensures)(?:\s+[^\s{}]+)?\s*\{")
+
+
+def check_comments(file, text):
+    """A line of code that starts with // is a comment: no text in quotes and no clause, whose text is antt's, goes on over it."""
+    name, whole = name_of(file), file.read_text()
+    odd = re.search(r'"|--|\{-', QUOTED.sub("", text))
+    expect(not odd, f"{name} has what can hide code from these checks: {odd and odd.group(0)}")
+    expect(len(re.findall(r"\bghost\b", text)) == len(GHOST_USE.findall(text)), f"{name} has a `ghost` that is no `use`")
+    for m in CLAUSE.finditer(text):
+        end = closing(text, m.end() - 1)
+        expect(whole[m.start():end] == text[m.start():end], f"{name} has a line of comment in a clause, which antt does not read as one")
+    marks = len(re.findall(r"\bno_mangle\b|\bextern\b", text))
+    expect(marks == 2 * len(re.findall(r'^#\[no_mangle\]\npub extern "C" fn ', text, re.M)), f"{name} exports a function in another form")
 
 
 def check_uses(file):
@@ -108,7 +125,7 @@ def check_definitions(file, text):
     """No file of definitions gives a word of the kit to something of its own; a record's field and a local name may be so spelled."""
     constructors = "".join(m.group(0) for m in DATA.finditer(text))
     declared = names(NAMED, text) | names(EXPORTED, RECORD.sub("", text)) | names(BOUND[:1], constructors)
-    for word in sorted(declared | {x for x in bound(text) if "_" in x}):
+    for word in sorted(declared | bound(text)):
         expect(not parts(word) & TAKEN, f"{name_of(file)} declares {word}, which is a word of the kit")
 
 
@@ -123,6 +140,10 @@ def check_contract(name, function):
 def check_words():
     for file in [*files("src", ".rt"), *files("specs", ".antt")]:
         check_readable(file, code(file))
+        if file.suffix == ".rt":
+            check_comments(file, code(file))
+        elif file.name != "Lib.antt":
+            expect(not re.search(r"^\s*(?:pub\s+)?mod\b", code(file), re.M), f"{name_of(file)} has a module below it, which no pin follows")
         check_uses(file)
     for file in files("specs", ".antt"):
         check_definitions(file, SPEC_USE.sub("", code(file)))

@@ -13,8 +13,8 @@ use Rattle.inputs.specs.Layout.{ΓFrom, ΓSize, ΩFrom, ΠFrom, ΨFrom}
 use Rattle.compare.specs.declared.Spot.{Spot}
 
 -- one place of the lists: those of the list hashes where `listed`, else those of the execution
-abbrev pub at : (kind party : ℕ) → Bool → (from length : ℕ) → Spot
-at kind party listed from length = record { kind = kind; party = party; listed = listed; from = from; length = length }
+abbrev pub at : (kind party : ℕ) → Bool → (from size : ℕ) → Spot
+at kind party listed from size = record { kind = kind; party = party; listed = listed; from = from; length = size }
 
 -- no two inputs differ
 abbrev pub nowhere : Spot

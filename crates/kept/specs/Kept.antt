@@ -29,10 +29,10 @@ pub record Shared (q n m N hid e : ℕ) (given entries work : List ℕ) (K : Key
   pub ss : Holds (K .m) (K .N) (v .hid) (2 * K .m) work (s K v)
 
 -- Π, Ψ, and whether the outputs add up to 0
-pub record Answered (K : Key) (v : View) (κ L pi psi : List ℕ) (zero : Bool) : Type 0 where
+pub record Answered (K : Key) (v : View) (κ L pi psi : List ℕ) (cancels : Bool) : Type 0 where
   pub Π-is : pi ≡ sha256 (Πin K v κ)
   pub Ψ-is : psi ≡ sha256 (Ψin K v κ L)
-  pub zero-is : zero ≡ eqb (sum (K .N) (o K v L) % K .q) 0
+  pub zero-is : cancels ≡ eqb (sum (K .N) (o K v L) % K .q) 0
 
 -- the parts and the key of which these are the values for kept execution e
 pub record KeptIn (q n m N D hid e : ℕ) (reply kappa seed entries : List ℕ) (K : Key) (P : Parts) : Type 0 where
@@ -46,8 +46,8 @@ pub record KeptIn (q n m N D hid e : ℕ) (reply kappa seed entries : List ℕ) 
   pub L-is : P .p4 ≡ seed
 
 -- what the judge computes of kept execution e: h(e), Ω where party N is open, else zeros, Π, Ψ, and whether the outputs add up to 0
-pub record Evaluates (K : Key) (P : Parts) (e : ℕ) (h omega pi psi : List ℕ) (zero : Bool) : Type 0 where
+pub record Evaluates (K : Key) (P : Parts) (e : ℕ) (h omega pi psi : List ℕ) (cancels : Bool) : Type 0 where
   pub h-is : h ≡ sha256 (hin K (keptView K P e))
   pub Ω-is : (suc (hidden K P e) ≡ K .N → ⊥) → omega ≡ sha256 (Ωin K (keptView K P e))
   pub Ω-hidden : suc (hidden K P e) ≡ K .N → omega ≡ replicate 32 0
-  pub answers : Answered K (keptView K P e) (κ K P) (P .p4) pi psi zero
+  pub answers : Answered K (keptView K P e) (κ K P) (P .p4) pi psi cancels

@@ -480,6 +480,6 @@ module _ (key x y : List ℕ) where
         record {
           only = finding-forked;
           always = λ h f. subst Finding (sym (forked-pair h f)) (is-finding (keyOf key) (partsOf x) (partsOf y));
-          true = λ bx by z.
+          sound = λ bx by z.
               subst (Truth (keyOf key) (partsOf x) (partsOf y)) (sym (found-pair z)) (forked-true bx by (finding-forked z));
         }

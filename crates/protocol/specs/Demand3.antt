@@ -130,4 +130,4 @@ LongEnough key l = first (keyChecks (keyOf key) key) ≡ accepted → enough (ke
 pub record Demand3 (key : List ℕ) (l : Lengths) (x y : List ℕ) : Type 0 where
   pub only : Finding (pair key l x y) → Forked key x y
   pub always : LongEnough key l → Forked key x y → Finding (pair key l x y)
-  pub true : Bytes x → Bytes y → Finding (pair key l x y) → Truth (keyOf key) (partsOf x) (partsOf y) (pair key l x y)
+  pub sound : Bytes x → Bytes y → Finding (pair key l x y) → Truth (keyOf key) (partsOf x) (partsOf y) (pair key l x y)
