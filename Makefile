@@ -3,12 +3,12 @@
 # make runs         what runs: the second implementation, the definitions and the proved library, on vectors and beside each other
 # make tests        make checks and make runs
 # make definitions  the definitions of specs/, as they stand there, on the vectors
-# make shared-vectors VECTORS=folder   all vector files of a folder through the library's C calls
-# make compare      the library's C calls beside the second implementation on more than a million inputs
-# make campaign     the same under the AddressSanitizer, in two runs, SAMPLES=number of keys that each starts from
+# make shared-vectors VECTORS=folder   all vector files of a folder through the library's C calls and the program report
+# make compare      the library's C calls beside the second implementation on more than a million inputs, the program report in FOLDERS folders
+# make campaign     the calls under the AddressSanitizer, in two runs, SAMPLES=number of keys that each starts from
 # make weak         the pair reader on collisions: a copy of the library whose hash is cut to a few values
 # make bench        our time over that of C, in one run; make stack: the stack of each call
-# make lib          library and header in dist/
+# make lib          library and header in dist/; make programs: the programs verdict and report there
 # make pin          writes the table of numbers and tools/pinned.txt anew, to be reviewed
 # make demo         an example of firmware: a badge, a door and an auditor
 # make clean        removes what was built
@@ -20,6 +20,7 @@ FLAGS_sanitized = -O1 -g -fsanitize=address,undefined -fno-sanitize-recover=all
 BUILD = target/tests
 VECTORS = tests/vectors
 SAMPLES = 16000
+FOLDERS = 2000
 
 REFERENCE = $(addprefix reference/,sha256.c aes128.c streams.c key.c tree.c execution.c transcript.c prover.c judge.c pair.c)
 HEADERS = $(wildcard include/*.h reference/*.h tests/c/*.h)
@@ -27,7 +28,7 @@ LIBBADGE = target/staticlib/libbadge.a
 LIBPRIMITIVES = target/staticlib/libprimitives.a
 PROVED := crates.txt $(shell find crates -name must-fail -prune -o -print)
 
-.PHONY: test checks runs tests tidy claims gate-check pin reference definitions spoiled primitives calls shared-vectors beside program compare campaign weak stack bench lib demo clean
+.PHONY: test checks runs tests tidy claims gate-check pin reference definitions spoiled primitives calls shared-vectors beside program compare campaign weak stack bench lib programs demo clean
 .SECONDARY:
 
 test:
@@ -112,17 +113,23 @@ $(COMMANDS)_weak%: reference/refcli.c $(BUILD)/O2/badge.o $(BUILD)/O2/reference.
 	mkdir -p $(@D)
 	$(CC) $(CFLAGS) -O2 -DBADGE -o $@ $^
 
-calls: $(COMMANDS)
+# The program report, where the second implementation has report_files.
+SHEETS = $(BUILD)/badge/report_files
+$(SHEETS): target/bin/report
+	mkdir -p $(@D)
+	cp $< $@
+
+calls: $(COMMANDS) $(SHEETS)
 	python3 reference/vectors.py --build $(<D) --calls $(filter-out %/weak_pair.jsonl,$(wildcard tests/vectors/*.jsonl))
 
 weak: $(COMMANDS)_weak2 $(COMMANDS)_weak16
 	python3 reference/vectors.py --build $(<D) --calls $(VECTORS)/weak_pair.jsonl
 
-shared-vectors: $(COMMANDS) $(COMMANDS)_weak2 $(COMMANDS)_weak16
+shared-vectors: $(COMMANDS) $(SHEETS) $(COMMANDS)_weak2 $(COMMANDS)_weak16
 	python3 reference/vectors.py --build $(<D) --calls $(VECTORS)
 
 # What is wrong with a file or a folder of vectors is seen.
-spoiled: $(BUILD)/libreference.so $(COMMANDS) $(COMMANDS)_weak2 $(COMMANDS)_weak16
+spoiled: $(BUILD)/libreference.so $(COMMANDS) $(SHEETS) $(COMMANDS)_weak2 $(COMMANDS)_weak16
 	python3 tests/spoiled.py $< --build $(BUILD)/badge --calls
 
 # The library beside the second implementation.
@@ -133,8 +140,9 @@ $(BUILD)/O2/compare: reference/compare.c $(BUILD)/O2/badge.o $(BUILD)/O2/referen
 $(BUILD)/sanitized/compare: reference/compare.c $(BUILD)/sanitized/badge.o $(BUILD)/sanitized/reference.o target/variant/sanitized.a
 	$(CC) $(CFLAGS) $(FLAGS_sanitized) -DBADGE -o $@ $^
 
-compare: $(BUILD)/O2/compare
+compare: $(BUILD)/O2/compare target/bin/report $(BUILD)/O2/report_files $(BUILD)/libreference.so
 	$< $(SAMPLES)
+	python3 tests/report.py target/bin/report $(BUILD)/O2/report_files $(BUILD)/libreference.so $(FOLDERS)
 
 # Two runs side by side, each with its own seed.
 SEEDS = 1 3
@@ -149,12 +157,20 @@ beside: $(BUILD)/O2/compare
 	$< 200
 	$(MAKE) --no-print-directory campaign SAMPLES=100
 
-target/bin/verdict: $(PROVED) | $(LIBBADGE)
-	rt check verdict > target/verdict.log 2>&1 || { cat target/verdict.log; exit 1; }
+# The programs. One rt at a time.
+
+target/bin/%: $(PROVED) | $(LIBBADGE)
+	rt check $* > target/$*.log 2>&1 || { cat target/$*.log; exit 1; }
 	test -x $@ && touch $@
 
-program: target/bin/verdict $(BUILD)/libreference.so
+target/bin/report: | target/bin/verdict
+
+$(BUILD)/%/report_files: reference/report_files.c $(BUILD)/%/reference.o
+	$(CC) $(CFLAGS) $(FLAGS_$*) -o $@ $^
+
+program: target/bin/verdict target/bin/report $(BUILD)/libreference.so $(BUILD)/O2/report_files
 	python3 tests/program.py target/bin/verdict $(BUILD)/libreference.so
+	python3 tests/report.py target/bin/report $(BUILD)/O2/report_files $(BUILD)/libreference.so
 
 # Times.
 
@@ -167,16 +183,21 @@ $(BUILD)/bench_calls: tests/c/bench_calls.c $(BUILD)/O3/badge.o $(BUILD)/O3/refe
 stack: $(BUILD)/bench_calls
 	$< stack
 
-bench: $(BUILD)/bench_primitives_O2 $(BUILD)/bench_primitives_O3 $(BUILD)/bench_calls
+bench: $(addprefix $(BUILD)/,bench_primitives_O2 bench_primitives_O3 bench_calls O3/report_files libreference.so) target/bin/report
 	$(BUILD)/bench_primitives_O2
 	$(BUILD)/bench_primitives_O3
 	$(BUILD)/bench_calls
+	python3 tests/report.py target/bin/report $(BUILD)/O3/report_files $(BUILD)/libreference.so bench
 
 # What a buyer holds in hand.
 
 lib: $(LIBBADGE)
 	mkdir -p dist
 	cp $(LIBBADGE) include/badge.h dist/
+
+programs: target/bin/verdict target/bin/report
+	mkdir -p dist
+	cp $^ dist/
 
 $(BUILD)/demo: examples/firmware.c lib | $(BUILD)
 	$(CC) -std=c11 -Wall -Wextra -Wpedantic -O2 -Idist -o $@ $(filter %.c %.o,$^) dist/libbadge.a

@@ -86,6 +86,7 @@ FORMS = {
     "pair": (PAIR, {"expect": FINDING}),
     "weak_pair": ({**PAIR, "modulus": is_one_of(2, 16)}, {"expect": FINDING}),
     "trace": (hexes("key", "run1", "run2"), {"e": is_number, "inputs": is_list(is_input)}),
+    "report": ({"key": is_hex, "runs": is_list(is_hex)}, {"text": is_text}),
 }
 PRIMITIVES = {
     "inverse": ({"N": is_number, "q": is_number}, {"value": is_number}),
@@ -194,7 +195,7 @@ def compare(path, compute, stop=False):
                 got = compute(kind, v)
                 for name in expected(kind, v):
                     if got[name] != v[name]:
-                        differ += tell("%s is %.200s, not %.200s" % (name, got[name], v[name]), v["id"])
+                        differ += tell("%s is %.200r, not %.200r" % (name, got[name], v[name]), v["id"])
             except Exception as problem:
                 differ += tell("not computed: %s: %.200s" % (type(problem).__name__, problem), v["id"])
             if stop and differ:

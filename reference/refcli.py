@@ -16,6 +16,7 @@ class Refcli:
     def __init__(self, modulus=None, build=BUILD):
         """With a modulus, the build whose hash is cut to that many values."""
         name = "refcli" if modulus is None else "refcli_weak%d" % modulus
+        self.build = os.path.abspath(build)
         self.process = subprocess.Popen([os.path.join(build, name)], stdin=subprocess.PIPE,
                                         stdout=subprocess.PIPE, text=True)
 

@@ -3,12 +3,16 @@
     vectors.py [--build DIRECTORY] [--calls] FILE_OR_DIRECTORY ..
 
 `forms.py` has the forms of the files. Prints one line for each file and each difference, and fails if there is any, or a file that is
-not as it should be, or no vector at all. With --calls, DIRECTORY has the program built with the library's calls; of primitives and
-traces, what the calls do not show is counted, and compared with the second implementation.
+not as it should be, or no vector at all. With --calls, DIRECTORY has the command program built with the library's calls, and the
+program `report` in place of `report_files`; of primitives and traces, what the calls do not show is counted, and compared with the
+second implementation.
 """
 import hashlib
+import os
 import struct
+import subprocess
 import sys
+import tempfile
 
 import forms
 from forms import INPUTS, LENT
@@ -108,6 +112,17 @@ def trace(cli, v):
     return {"e": int(words[0]), "inputs": inputs}
 
 
+def report(cli, v):
+    """What the program prints in a folder with these files."""
+    with tempfile.TemporaryDirectory() as folder:
+        for name, data in [("key", v["key"]), *(("run%02d" % i, run) for i, run in enumerate(v["runs"], 1))]:
+            with open(os.path.join(folder, name), "wb") as file:
+                file.write(bytes.fromhex(data))
+        done = subprocess.run([os.path.join(cli.build, "report_files")], cwd=folder, capture_output=True)
+    require(done.returncode == 0 and not done.stderr, "the program ends with status %d" % done.returncode)
+    return {"text": done.stdout.decode()}
+
+
 def shown(cli, number, **inputs):
     """The message, in bytes, of inputs in hex."""
     return bytes.fromhex(written(cli, {**dict.fromkeys(INPUTS, ""), **inputs}, number))
@@ -179,7 +194,7 @@ def trace_shown(cli, v):
 
 
 COMPUTED = {"primitives": primitive, "prover": prover, "lent": lent, "judge": judge, "judge_lent": judge_lent, "pair": pair,
-            "trace": trace, "weak_pair": pair}
+            "trace": trace, "weak_pair": pair, "report": report}
 # What the calls show of the layers; all else is theirs anyhow.
 SHOWN = {"primitives": primitive_shown, "trace": trace_shown}
 

@@ -130,7 +130,8 @@ change("g: a test that does nothing", "target definitions has changed", "Makefil
 change("g: other flags", r"tests has changed .*Makefile", "Makefile", put(r"^FLAGS_sanitized = .*$", "FLAGS_sanitized = -O1"))
 change("g: another gate", r"tests has changed .*\.ci/run", ".ci/run", put(r"^run_make .*runs$", "true"))
 seen_anew("g: another makefile", "make reads GNUmakefile", "GNUmakefile", lambda text: "tests:\n\t@true\n")
-for file in ("tests/program.py", "tests/gate.py", "tools/definitions.py", "reference/vectors.py", "reference/compare.c", "tests/c/test_primitives.c", TIDY):
+for file in ("tests/program.py", "tests/report.py", "crates/report/stdout", "tests/gate.py", "tools/definitions.py", "reference/vectors.py",
+             "reference/compare.c", "tests/c/test_primitives.c", TIDY):
     change(f"g: {file} emptied", f"tests has changed .*{re.escape(file)}", file, lambda text: "")
 for file in ("include/string.h", "tools/struct/__init__.py", "reference/json/__init__.py"):
     change(f"g: {file} beside the tests", f"tests has changed .*{re.escape(file)}", file, lambda text: "#")
@@ -157,12 +158,16 @@ seen_anew("i: an export in another form", "exports a function in another form", 
 seen_anew("i: eqb declared in a section", "declares eqb", WORDS, put(r"^(module _ .*\n)", r"\1  eqb : ℕ → ℕ → Bool\n  eqb x y = true\n\n"))
 seen_anew("i: length bound by a let", "declares length", WORDS, put(r"^judge key x = ", "judge key x = let length = x in "))
 seen_anew("i: a module below a file of definitions", "has a module below it", WORDS, put(r"^(use .*\n)(?!use)", r"\1mod Run\n"))
+SHEET = "crates/sheet/src/lib.rt"
+change("i: a theorem for fewer runs", "contract sheet::lines_counted has changed", SHEET, put("≤ 99 → Counted", "≤ 9 → Counted"))
+seen_anew("i: a theorem less", "names sheet::lines_counted, which no listed crate has", SHEET, drop(r"^pub fn lines_counted.*\n.*\n\{\}\n"))
 seen_anew("i: a theorem with `requires`", "demand_3 is an entry point", PAIRS, put(r"^pub fn demand_3\(\)$", r"pub fn demand_3()\n    requires { ⌜ ⊥ ⌝ }"))
 seen_anew("i: a type on a line with another item", "has a module or type u32", JUDGE, add("const NONE: u8 = 0; pub struct u32(u64);\n"))
 seen_anew("i: a macro for a call", "neither a number nor a call", HEADER, add("#define badge_judge(a, b, c, d) 0\n"))
 seen_anew("i: a file that hides differences", "make reads .gitattributes", ".gitattributes", lambda text: "tools/pinned.txt -diff\n")
 seen_anew("i: another page", "another page", "docs/GUARANTEES.md", lambda text: "Secrecy of s is proved.\n")
-change("i: a program that does more", "program crates/verdict/src/main.rt has changed", "crates/verdict/src/main.rt", put(r"\bmain\(\) \{", "main() {\n"))
+for program in ("crates/verdict/src/main.rt", "crates/report/src/main.rt"):
+    change("i: a program that does more", f"program {program} has changed", program, put(r"\bmain\(\) \{", "main() {\n"))
 change("i: README claims more", "page README.md has changed", "README.md", add("\nAn accepted file proves knowledge.\n"))
 change("i: a module without source", "tests has changed .*json.pyc", "reference/json.pyc", lambda text: "#")
 change("i: a header that gcc takes first", "tests has changed .*badge.h.gch", "include/badge.h.gch", lambda text: "#")

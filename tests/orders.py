@@ -1,8 +1,9 @@
-"""Vectors for the order of the refusals, and for tests that stand alone: `make_vectors.py --orders` writes them.
+"""Vectors for the order of the refusals, for tests that stand alone and for sheets: `make_vectors.py --orders` writes them.
 
 In document 01's table the first number that applies is given. For each two neighbours of an order there is a vector to which both
-apply (for the key's own numbers in the files of judge and pair reader): whoever tests in another order turns two neighbours round, and gives the second number there. For each part that a test
-compares there is a vector that differs in this part alone."""
+apply (for the key's own numbers in the files of judge and pair reader): whoever tests in another order turns two neighbours round, and
+gives the second number there. For each part that a test compares there is a vector that differs in this part alone. Sheets have 0, 1, 9
+to 11, 99 and more runs, all accepted, all refused and mixed."""
 import random
 
 from make_vectors import Badge, altered, alpha_places, file_of, packed, random_key, wrong_secret
@@ -237,8 +238,32 @@ class Orders:
         self.pair("part-2-alone", file_of(runs[0]), file_of(runs[1]), key=key.bytes(), kind="weak_pair", more={"modulus": 2}.items(),
                   refused=22)
 
+    # Sheets.
+
+    def report(self, name, runs, accepted, refused, key=None):
+        v = self.maker.write("report", {"id": "order-" + name, "key": self.data if key is None else key, "runs": [x.hex() for x in runs]})
+        last = "accepted %d refused %d total %d\n" % (accepted, refused, accepted + refused)
+        assert v["text"].splitlines(True)[-1] == last, (name, v["text"])
+
+    def reports(self):
+        good, flaws = self.spoiled(), ["12", *self.flaws()]
+        self.report("no-run", [], 0, 0)
+        self.report("no-run-and-no-key", [], 0, 0, b"")
+        self.report("one-empty-run", [b""], 0, 1)
+        self.report("one-accepted", [good], 1, 0)
+        self.report("empty-between", [good, b"", good], 2, 1)
+        for number, key in {0: b"", **self.bad_keys()}.items():
+            self.report("key-%d" % number, [good, b""], 0, 2, key)
+        self.report("every-number", [self.spoiled(x) for x in flaws], 0, len(flaws))
+        for count in (9, 10, 11):
+            self.report("%d-runs" % count, [good] + [b""] * (count - 1), 1, count - 1)
+        self.report("10-accepted", [good] * 10 + [b""], 10, 1)
+        self.report("99-runs", [good if i % 9 == 4 else b"" for i in range(99)], 11, 88)
+        self.report("101-runs", [b""] * 98 + [good] * 3, 1, 98)
+
     def all(self):
         self.judge()
         self.judge_lent()
         self.prover()
         self.pairs()
+        self.reports()

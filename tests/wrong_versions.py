@@ -15,7 +15,7 @@ import tempfile
 ROOT = pathlib.Path(__file__).resolve().parent.parent
 LIBRARY = pathlib.Path(sys.argv[1]).resolve()
 JUDGE, TRANSCRIPT, PAIR, PROVER = ("protocol/specs/%s.antt" % x for x in ("Judge", "Transcript", "Pair", "Prover"))
-CALL = "badge/specs/PairCall.antt"
+CALL, SHEET = "badge/specs/PairCall.antt", "sheet/specs/Sheet.antt"
 
 
 def turned(first, between, second):
@@ -76,8 +76,11 @@ E_7, BINARY_8 = "not (goodE K E) ⇒ 7", "not (binary K (λ k. getD secret k 0))
 SOLVES_9 = "not (solves K (λ k. getD secret k 0)) ⇒ 9"
 CHECKS_7, LENT_7 = "checks7 K seeds secret E κ L hidden", "lentChecks K (message7 K seeds secret E κ L hidden) size from work entry"
 
-# What is wrong; the file and the line of the vector; the edit of the definitions; that of the second implementation, where it is a
-# short one.
+ACCEPTED_RUNS, REFUSED_RUNS, ALL_RUNS = ("(decimal 2 (%s ns))" % x for x in ("acceptedIn", "refusedIn", "length"))
+REF_COUNTS, REF_OPENED = "accepted, refused, accepted + refused);", "if (!read_file(name, run, &run_len))"
+
+# What is wrong; the file and the line of the vector; the edit of the definitions, where they speak of it; that of the second
+# implementation, where it is a short one.
 VERSIONS = [
     ("all 16 before all 15", "judge", "15-first-before-16-last",
      (JUDGE, (KEPT, KEPT.replace("(executionChecks e)", "(take 1 (executionChecks e))") + " ++ "
@@ -155,6 +158,21 @@ VERSIONS = [
                  ")\n        return -(int64_t)LENT_SHORT;\n"
                  "    refused = pair_start(&p, run1, run1_len, run2, run2_len, lent);\n    if (refused)\n"
                  "        return -(int64_t)refused;\n    if (answer_len < ANSWER_WORDS)\n        return -(int64_t)LENT_SHORT;\n"))),
+    ("the total of the accepted", "report", "empty-between", (SHEET, (ALL_RUNS, ACCEPTED_RUNS)),
+     ("report_files.c", (REF_COUNTS, "accepted, refused, accepted);"))),
+    ("the accepted counted as refused", "report", "empty-between", (SHEET, (REFUSED_RUNS, ACCEPTED_RUNS)),
+     ("report_files.c", (REF_COUNTS, "accepted, accepted, accepted + refused);"))),
+    ("the last line's numbers swapped", "report", "one-empty-run",
+     (SHEET, (ACCEPTED_RUNS + " " + REFUSED_RUNS, REFUSED_RUNS + " " + ACCEPTED_RUNS)),
+     ("report_files.c", (REF_COUNTS, "refused, accepted, accepted + refused);"))),
+    ("run 10 named run00", "report", "10-runs", (SHEET, ("(48 + i / 10)", "(48 + i / 11)")), None),
+    ("a name of one digit", "report", "9-runs", (SHEET, ("(48 + i / 10) ∷ (48", "(48")), None),
+    ("a count of two digits below 10", "report", "one-accepted", (SHEET, (ACCEPTED_RUNS, ACCEPTED_RUNS.replace("(", "(48 ∷ ", 1))),
+     ("report_files.c", ("accepted %d refused", "accepted %02d refused"))),
+    ("the last verdict for all", "report", "empty-between", (SHEET, ("runLine (suc j) (getD ns j 0)", "runLine (suc j) (getD ns (length ns - 1) 0)")),
+     None),
+    ("an empty run ends the sheet", "report", "empty-between", None, ("report_files.c", (REF_OPENED, REF_OPENED[:-1] + " || run_len == 0)"))),
+    ("a hundredth run", "report", "101-runs", None, ("report_files.c", ("RUNS = 99", "RUNS = 100"))),
 ]
 
 
@@ -168,22 +186,21 @@ def edit(path, old, new):
 def sees(command, name):
     """Whether the run ends with a difference on the vector, and nothing else."""
     done = subprocess.run([str(x) for x in command], capture_output=True, text=True)
-    told = [line for line in done.stdout.splitlines() if "order-%s: expect is" % name in line]
+    told = [line for line in done.stdout.splitlines() if "order-%s: expect is" % name in line or "order-%s: text is" % name in line]
     return done.returncode == 1 and len(told) == 1 and not done.stderr
 
 
 def by_definitions(folder, vector, name, path, change):
     shutil.copytree(ROOT / "tools", folder / "tools")
     shutil.copytree(ROOT / "crates", folder / "crates", ignore=shutil.ignore_patterns("proofs", "must-fail"))
-    shutil.copytree(ROOT / "reference", folder / "reference", ignore=shutil.ignore_patterns("build", "__pycache__"))
     edit(folder / "crates" / path, *change)
     return sees([sys.executable, folder / "tools" / "definitions.py", LIBRARY, "--stop", vector], name)
 
 
 def by_second(folder, vector, name, path, change):
     edit(folder / "reference" / path, *change)
-    program = "build/refcli_weak2" if vector.stem == "weak_pair" else "build/refcli"
-    subprocess.run(["make", "-s", "-C", str(folder / "reference"), "OPT=-O0", program], check=True)
+    programs = {"weak_pair": ["build/refcli_weak2"], "report": ["build/refcli", "build/report_files"]}.get(vector.stem, ["build/refcli"])
+    subprocess.run(["make", "-s", "-C", str(folder / "reference"), "OPT=-O0", *programs], check=True)
     return sees([sys.executable, folder / "reference" / "vectors.py", vector], name)
 
 
@@ -194,7 +211,8 @@ def run(version):
         vector = folder / (kind + ".jsonl")
         lines = open(ROOT / "tests" / "vectors" / vector.name)
         vector.write_text("".join(x for x in lines if '"id": "order-%s"' % name in x))
-        results = {"definitions": by_definitions(folder, vector, name, *definition)}
+        shutil.copytree(ROOT / "reference", folder / "reference", ignore=shutil.ignore_patterns("build", "__pycache__"))
+        results = {"definitions": by_definitions(folder, vector, name, *definition)} if definition else {}
         if second:
             results["second implementation"] = by_second(folder, vector, name, *second)
     told = ", ".join("%s: %s" % (x, "seen" if results[x] else "NOT SEEN") for x in results)

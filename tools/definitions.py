@@ -7,7 +7,7 @@
 vector that differs, and leaves the standards out. First SHA-256 and AES-128 by their definitions, on published examples and beside Python's hashlib and the second implementation. Then
 the vectors: those of keys up to WHOLE with SHA-256 and AES-128 by their definitions, the larger ones with both from the second
 implementation, for time. What stays outside the definitions is Python's: length, getD, take, drop, replicate, comparisons of numbers,
-bitAnd, bitOr, bitXor, and pos and neg of the answers for C. Where q is 0 or another number of the key is past all limits, only the key's
+bitAnd, bitOr, bitXor, and pos and neg of the answers for C; of a sheet, which files there are and their first 65536 bytes. Where q is 0 or another number of the key is past all limits, only the key's
 own tests are run, since a list of tests is built whole."""
 import ctypes
 import functools
@@ -96,6 +96,9 @@ a = definitions(
     ("refusals/specs/Number", "numberOf"), ("pair/specs/Lent",), ("badge/specs/PairCall",),
     ("reading/specs/Answers", "over", "hash1Of", "hash2Of", "bitsOf", "errorsOf"), ("answer/specs/Codes", "findingCode"),
     ("answer/specs/Rows", "row", "rowAfter"))
+sheets = definitions(("lists/specs/Index",), ("line/specs/Line",), ("sheet/specs/Sheet",),
+                     ("sheet/specs/Counted", "longer", "linesOf", "howMany", "saysAccepted", "saysRefused", "valueOf", "isDigit", "areDigits",
+                      "isCount"))
 answers = definitions(("lists/specs/Check",), ("prover/src/lib.rt", "Answer"), ("prover/specs/Answers",), ("answer/specs/Codes", "codeOf"))
 
 
@@ -129,6 +132,26 @@ def judge(v):
 def judge_lent(v):
     key, lengths = hexes(v["key"]), [ENOUGH if v[x] is None else v[x] for x in ("work_len", "at_len")]
     return {"expect": number(keyed(key, lambda: a.call("judgeLent", key, *lengths, hexes(v["run"]))))}
+
+
+def counted(text):
+    """Whether the text is as the theorem says, by the words of which the theorem is made."""
+    *above, last = sheets.call("linesOf", tuple(text))
+    numbers = [tuple(x) for x in bytes(last).split(b" ")[1::2]]
+    counts = [sheets.call("howMany", sheets.G[x], tuple(above)) for x in ("saysAccepted", "saysRefused")] + [len(above)]
+    return len(numbers) == 3 and last == sheets.call("totals", *numbers) and all(
+        sheets.call("isCount", x) and sheets.call("valueOf", 0, x) == n for x, n in zip(numbers, counts)) and all(
+        bytes(x[:3]) == b"run" and sheets.call("areDigits", 2, x[3:5]) and sheets.call("valueOf", 0, x[3:5]) == i
+        and sheets.call("saysRefused", x) != sheets.call("saysAccepted", x) for i, x in enumerate(above, 1))
+
+
+def report(v):
+    """The sheet of the judge's numbers."""
+    key, runs = hexes(v["key"])[:65536], [hexes(x)[:65536] for x in v["runs"][:99]]
+    text = sheets.call("sheetOf", tuple(number(keyed(key, lambda: a.call("judge", key, x))) for x in runs))
+    if not counted(v["text"].encode()):
+        raise ValueError("the last line does not count those above it")
+    return {"text": bytes(text).decode()}
 
 
 def prover(v):
@@ -246,7 +269,7 @@ def primitives(v):
 
 
 KINDS = {"primitives": primitives, "judge": judge, "judge_lent": judge_lent, "prover": prover, "lent": lent, "pair": pair,
-         "trace": trace, "weak_pair": pair}
+         "trace": trace, "weak_pair": pair, "report": report}
 
 
 def standards():
@@ -281,7 +304,7 @@ def is_small(v):
 def compute(kind, v):
     global modulus, whole, alone
     modulus, whole = v.get("modulus"), is_small(v)
-    a.clear(), sha.clear(), library_block.cache_clear()
+    a.clear(), sheets.clear(), sha.clear(), library_block.cache_clear()
     alone += whole
     return KINDS[kind](v)
 

@@ -7,7 +7,7 @@ ghost use lib.ListN.{length, take, drop};
 ghost use Rattle.line.specs.Line.{decimal, lineOf};
 
 // The digits of a number that has at most `most` of them, in front; returns how many there are.
-fn put_decimal(n: u32, most: usize, out: &mut [u8]) -> usize
+pub fn put_decimal(n: u32, most: usize, out: &mut [u8]) -> usize
     requires { ⌜ most ≤ length (now out) ⌝ }
     ensures { λ r. ⌜ r ≡ length (decimal most n) ⌝ }
     ensures { λ r. ⌜ now (out .exit) ≡ decimal most n ++ drop r (now (out .entry)) ⌝ }
@@ -25,7 +25,7 @@ fn put_decimal(n: u32, most: usize, out: &mut [u8]) -> usize
 }
 
 // A text in front; returns its length.
-fn put_text(text: &[u8], out: &mut [u8]) -> usize
+pub fn put_text(text: &[u8], out: &mut [u8]) -> usize
     requires { ⌜ length (now text) ≤ length (now out) ⌝ }
     ensures { λ r. ⌜ r ≡ length (now (text .entry)) ⌝ }
     ensures { λ r. ⌜ now (out .exit) ≡ now (text .entry) ++ drop r (now (out .entry)) ⌝ }

@@ -1,0 +1,3 @@
+pub mod Sheet
+pub mod Counted
+pub mod Cases
