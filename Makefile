@@ -8,7 +8,7 @@
 # make campaign     the calls under the AddressSanitizer, in two runs, SAMPLES=number of keys that each starts from
 # make weak         the pair reader on collisions: a copy of the library whose hash is cut to a few values
 # make bench        our time over that of C, in one run; make stack: the stack of each call
-# make lib          library and header in dist/; make programs: the programs verdict and report there
+# make lib          library and header in dist/; make bin: the programs verdict and report there
 # make pin          writes the table of numbers and tools/pinned.txt anew, to be reviewed
 # make demo         an example of firmware: a badge, a door and an auditor
 # make clean        removes what was built
@@ -28,7 +28,7 @@ LIBBADGE = target/staticlib/libbadge.a
 LIBPRIMITIVES = target/staticlib/libprimitives.a
 PROVED := crates.txt $(shell find crates -name must-fail -prune -o -print)
 
-.PHONY: test checks runs tests tidy claims gate-check pin reference definitions spoiled primitives calls shared-vectors beside program compare campaign weak stack bench lib programs demo clean
+.PHONY: test checks runs tests tidy claims gate-check pin reference definitions spoiled primitives calls shared-vectors beside program compare campaign weak stack bench lib bin demo clean
 .SECONDARY:
 
 test:
@@ -195,7 +195,7 @@ lib: $(LIBBADGE)
 	mkdir -p dist
 	cp $(LIBBADGE) include/badge.h dist/
 
-programs: target/bin/verdict target/bin/report
+bin: target/bin/verdict target/bin/report
 	mkdir -p dist
 	cp $^ dist/
 

@@ -5,6 +5,7 @@ ghost use Prim.Native.Nat.{_≤_};
 ghost use mathlib.Core.Path.{_≡_};
 ghost use lib.ListN.{length};
 ghost use Rattle.io.specs.Counts.{Counts};
+ghost use Rattle.report.specs.Judged.{Judged};
 use libc::STDOUT_FILENO;
 
 // A file: whether it could be opened, and how many of its bytes were read; none of a directory.
@@ -37,6 +38,7 @@ fn judge_runs(key: &[u8], run: &mut [u8], verdicts: &mut [u32]) -> usize
     requires { ⌜ length (now verdicts) ≡ 99 ⌝ }
     ensures { λ r. ⌜ r ≤ 99 ⌝ }
     ensures { λ r. ⌜ Counts r (now (verdicts .exit)) ⌝ }
+    ensures { λ r. ⌜ Judged (now (key .entry)) r (now (verdicts .exit)) ⌝ }
 {
     let mut count = 0;
     while count < 99 {

@@ -1,7 +1,7 @@
 -- Laws of what is written in a list, text after text, and of the sheet's lengths.
 -- Assumes nothing.
 use Prim.Native.Nat.{ℕ, zero, suc, _+_, _-_, _≤_}
-use mathlib.Core.Path.{_≡_, refl, sym, _∙_, ap}
+use mathlib.Core.Path.{_≡_, sym, _∙_, ap}
 use mathlib.Core.Bool.{Bool, true, false}
 use mathlib.Core.List.{List, [], _∷_, _++_, append-assoc}
 use native.Mathlib.Numerals.{add-one}
@@ -86,16 +86,12 @@ lineAt ns j = runLine (suc j) (getD ns j 0)
 pub next-run : (ns : List ℕ) {i at to : ℕ} {l o r : List ℕ} → Built (lineAt ns) i at l o → Puts at to (runLine (i + 1) (getD ns i 0)) o r → Built (lineAt ns) (i + 1) to l r
 next-run ns {i} b p = built-more b p (ap (λ (k : ℕ). runLine k (getD ns i 0)) (add-one i))
 
+-- items in front, and a text behind them
 built-then : {f : ℕ → List ℕ} {i at to : ℕ} {ys l o q : List ℕ} → Built f i at l o → Puts at to ys o q
     → (to ≡ length (cat i f ++ ys)) × (q ≡ cat i f ++ ys ++ drop to l)
-built-then {f} {i} {at} {to} {ys} {l} {o} {q} b p = (
-  omega (arith, b .long, p .long, length-append (cat i f) ys),
-  p .is ∙ rw (b .is, take-at (cat i f) (drop at l) at (sym (b .long)), later) refl,
-)
-  where
-    later : drop to (cat i f ++ drop at l) ≡ drop to l
-    later =
-        rw (p .long, ← drop-drop (length ys) at (cat i f ++ drop at l), drop-at (cat i f) (drop at l) at (sym (b .long))) (drop-drop (length ys) at l)
+built-then {f} {i} {at} {l = l} {o} b p =
+    let front : Puts 0 at (cat i f) l o = record { long = omega (arith, b .long); is = b .is } in
+    let w = puts-join (omega arith) front p in (omega (arith, w .long), w .is)
 
 sheet-is : (ns : List ℕ) {i a r t : ℕ} → i ≡ length ns
     → a ≡ count i (λ j. eqb (getD ns j 0) 0) → r ≡ count i (λ j. ltb 0 (getD ns j 0)) → t ≡ i

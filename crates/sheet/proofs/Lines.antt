@@ -7,13 +7,13 @@ use mathlib.Core.Bool.{Bool, true, false, not}
 use mathlib.Core.Logic.{⊎-elim}
 use mathlib.Core.List.{List, [], _∷_, _++_, append-assoc}
 use native.Mathlib.Nat.{zero-add, add-zero, eq-or-lt-of-le, le-of-suc-le-suc}
-use native.Mathlib.Numerals.{add-one}
 use native.Mathlib.Omega.{arith}
 use lib.Dec.{eqb, ltb}
-use lib.ListN.{length, getD, take, length-append, List·getD-append}
+use lib.ListN.{length, getD, take, List·getD-append}
 use lib.Seq.{getD-at}
 use borrow.Author.Tests.{ne-eqb, lt-ltb, le-ltb, ltb-true, ltb-false}
 use Rattle.lists.specs.Index.{pick, cat, every, count, same}
+use Rattle.lists.specs.CatLaws.{cat-length}
 use Rattle.lists.specs.TestLaws.{decide, count-ext, count-le}
 use Rattle.line.specs.Line.{decimal, lineOf}
 use Rattle.line.proofs.Laws.{refusedText}
@@ -66,9 +66,8 @@ module _ (b : ℕ → List ℕ) where
   how-many-cat p (suc n) = how-many-join p (cat n single) (single n) ∙ ap₂ (λ x y. x + y) (how-many-cat p n) (add-zero (pick (p (b n)) 1 0))
 
   long : (n : ℕ) → length (cat n single) ≡ n
-  unfolding cat single
-  long zero = refl
-  long (suc n) = length-append (cat n single) (single n) ∙ rw (long n) (add-one n)
+  unfolding single
+  long n = omega (arith, cat-length n 1 single (λ j h. refl))
 
   lines-cat : (f : ℕ → List ℕ) → ((j : ℕ) → f j ≡ b j ++ 10 ∷ []) → ((j : ℕ) → Free (b j)) → (n : ℕ) (x : List ℕ)
       → linesOf (cat n f ++ x) ≡ cat n single ++ linesOf x

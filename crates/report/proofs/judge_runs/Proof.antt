@@ -1,20 +1,30 @@
--- `judge_runs` meets its contract. Assumes nothing.
+-- `judge_runs` meets its contract. Invariant: the numbers so far are the judge's. Assumes nothing.
 use borrow.Author.Needs.{needs}
 use Prim.Native.Nat.{_-_, _≤_}
 use mathlib.Core.Path.{_≡_, sym}
+use native.Mathlib.Omega.{arith}
 use lib.ListN.{length}
 use lib.Seq.{length-take-le}
+use Rattle.report.specs.Judged.{Judged}
+use Rattle.report.proofs.Laws.{none-judged, next-judged}
 use Rattle.report.proofs.judge_runs.Statement.{statement}
 use Rattle.report.proofs.judge_runs.Tie as tie
 
 abbrev Inv-loop : tie.InvT-loop
-Inv-loop key run₀ verdicts₀ count₀ run verdicts count = (count ≤ 99) × (length verdicts ≡ 99) × (length run ≡ length run₀)
+Inv-loop key run₀ verdicts₀ count₀ run verdicts count = (count ≤ 99) × (length verdicts ≡ 99) × (length run ≡ length run₀) × Judged key count verdicts
 
 abbrev μ-loop : tie.MeasureT-loop
 μ-loop key run₀ verdicts₀ count₀ run verdicts count = 99 - count
 
+-- the places that are looked back to
+abbrev at-loop : (c : tie.After-badge-judge Inv-loop μ-loop) → tie.At-loop Inv-loop μ-loop
+at-loop c = search needs
+
+abbrev in-loop : (c : tie.After-badge-judge Inv-loop μ-loop) → tie.In-loop Inv-loop μ-loop
+in-loop c = search needs
+
 loop-holds : tie.Need-loop-holds Inv-loop μ-loop
-loop-holds c = search needs
+loop-holds c = (search needs, search needs, search needs, none-judged _ _)
 
 add-name : tie.Need-add-name Inv-loop μ-loop
 add-name c = search needs
@@ -35,7 +45,7 @@ same-length-2 : tie.Need-same-length-2 Inv-loop μ-loop
 same-length-2 c = search needs
 
 returns : tie.Need-returns Inv-loop μ-loop
-returns c = (search needs, (search needs, sym (length-take-le _ _ (search needs))))
+returns c = (search needs, ((search needs, sym (length-take-le _ _ (search needs))), search needs))
 
 slice-reshare-prefix-badge-judge : tie.Need-slice-reshare-prefix-badge-judge Inv-loop μ-loop
 slice-reshare-prefix-badge-judge c = search needs
@@ -59,7 +69,9 @@ loop-less : tie.Need-loop-less Inv-loop μ-loop
 loop-less c = search needs
 
 loop-again : tie.Need-loop-again Inv-loop μ-loop
-loop-again c = search needs
+loop-again c =
+    let l = at-loop c .loop in
+    (search needs, search needs, search needs, next-judged _ (l .inv .3) (omega (arith, l .inv .1, in-loop c .loop-test .taken)) (c .badge-judge .ensures))
 
 same-length-3 : tie.Need-same-length-3 Inv-loop μ-loop
 same-length-3 c = search needs
@@ -68,7 +80,7 @@ same-length-4 : tie.Need-same-length-4 Inv-loop μ-loop
 same-length-4 c = search needs
 
 returns-2 : tie.Need-returns-2 Inv-loop μ-loop
-returns-2 c = (search needs, (search needs, sym (length-take-le _ _ (search needs))))
+returns-2 c = (search needs, ((search needs, sym (length-take-le _ _ (search needs))), search needs))
 
 pub judge-runs-spec : {M : Type 1} → statement M
 judge-runs-spec =
