@@ -88,14 +88,17 @@ pub drop-sub : {c a b x y : ℕ} → Cong (suc c) a x → Cong (suc c) b y → C
 drop-sub h k = cong_trans (sub_is _ _ _) (cong_add h (cong_mul cong_refl k))
 
 pub sub_cong : {q a b x y : ℕ} → 0 < q → Cong q a x → Cong q b y → Cong q (sub q a b) (sub q x y)
+sub_cong {q = Prim.Native.Nat.zero} {a = a} {b = b} {y = y} p h k = elim p [ ]
 sub_cong {q = suc c} p h k = cong_trans (drop-sub h k) (cong_sym (sub_is _ _ _))
 
 -- a - b + b = a.
 pub sub-add : {q : ℕ} → 0 < q → (a b : ℕ) → Cong q (sub q a b + b) a
+sub-add {q = Prim.Native.Nat.zero} p a b = elim p [ ]
 sub-add {q = suc c} p a b = cong_trans (cong_add (sub_is c a b) cong_refl) (cong_by (suc c) (a + c * b + b) a 0 b (omega arith))
 
 -- a + b - b = a.
 pub add-sub : {q : ℕ} → 0 < q → (a b : ℕ) → Cong q (sub q (a + b) b) a
+add-sub {q = Prim.Native.Nat.zero} p a b = elim p [ ]
 add-sub {q = suc c} p a b = cong_trans (sub_is c (a + b) b) (cong_by (suc c) (a + b + c * b) a 0 b (omega arith))
 
 pub cong_cancel : {q : ℕ} → 0 < q → {a b : ℕ} (x : ℕ) → Cong q (a + x) (b + x) → Cong q a b
@@ -103,6 +106,7 @@ cong_cancel p {a} {b} x h = cong_trans (cong_sym (add-sub p a x)) (cong_trans (s
 
 -- A difference is 0 exactly if its two sides are one number.
 pub sub_zero : {q : ℕ} → 0 < q → {a b : ℕ} → Cong q a b → sub q a b ≡ 0
+sub_zero {q = Prim.Native.Nat.zero} p {a = a} {b = b} h = elim p [ ]
 sub_zero {q = suc c} p {a} {b} h =
     cong_same (sub-lt p a b) p
     (cong_trans (sub_is c a b) (cong_trans (cong_add h cong_refl) (cong_by (suc c) (b + c * b) 0 0 b (omega arith))))

@@ -263,4 +263,5 @@ pub out_once : {q : ℕ} → 0 < q → (r : Run) (a : ℕ → ℕ) (i T : ℕ) (
     → Cong q T (base_of q r.N r.n r.β r.t) → ((k : ℕ) → k < r.m → Cong q (w k) (weight_of q r.n r.β r.A k))
     → out q r a i ≡ (T + sum r.m (λ k. term_of q (w k) (r.γ k) (a k) (r.s k i) (r.b k i) (r.d k i))) % q
 unfolding out base_of weight_of term_of
+out_once {q = zero} p r a i T w hT hw = elim p [ ]
 out_once {q = suc c} p r a i T w hT hw = (once c r a i T w hT hw (λ k. r.γ k * sub (suc c) (a k * (r.s k i + r.b k i) + r.d k i) (r.s k i))).same
