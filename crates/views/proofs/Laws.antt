@@ -17,7 +17,8 @@ use Rattle.lists.specs.Bytes.{words, nums, num}
 use Rattle.lists.specs.CatLaws.{cat-more, cat_ext, nums_ext, words-tab, part_length}
 use Rattle.lists.specs.Written.{front-more}
 use Rattle.numbers.specs.Mod.{sub}
-use Rattle.numbers.specs.Sum.{sum, sum_ext}
+use Rattle.numbers.specs.Sum.{sum}
+use Rattle.numbers.proofs.Sum.{sum_ext}
 use Rattle.sha_core.specs.Fips180.{sha256}
 use Rattle.streams.specs.Streams.{block}
 use Rattle.sha.specs.State.{Fed, fed_join}
