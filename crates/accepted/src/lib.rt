@@ -1,4 +1,5 @@
 // Two transcripts judged for one key that was read (document 01, Pair reader, 20 to 23).
+#![tactic(auto)]
 
 ghost use Rattle.std.specs.Prelude.{◌≡◌, ◌+◌, ◌*◌, ◌-◌, ◌≤◌, length};
 ghost use Rattle.lists.specs.Check.{first};

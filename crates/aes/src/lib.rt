@@ -1,4 +1,5 @@
 // AES-128, FIPS 197: the key schedule and the encryption of one block.
+#![tactic(auto)]
 
 ghost use Rattle.std.specs.Prelude.{◌≡◌, List, [], ◌∷◌, ℕ, ◌+◌, ◌*◌, ◌%◌, ◌<◌, length, take};
 ghost use Rattle.lists.specs.Tab.{tab};

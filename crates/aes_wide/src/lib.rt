@@ -1,4 +1,5 @@
 // AES-128, sixteen blocks at a time: byte p of block l stands at place 16 p + l, or, once counter blocks are done, at 16 l + p.
+#![tactic(auto)]
 
 ghost use Rattle.std.specs.Prelude.{true, false, ◌≡◌, ℕ, ◌+◌, ◌*◌, ◌-◌, ◌/◌, ◌%◌, ◌^◌, ◌<◌, ◌≤◌, length};
 ghost use Rattle.lists.specs.Tab.{tab};

@@ -1,4 +1,5 @@
 // The calls' answers as numbers for C: one number for each, and the row of eight for a finding.
+#![tactic(auto)]
 
 pub mod code;
 

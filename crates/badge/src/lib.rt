@@ -1,5 +1,6 @@
 // The calls for C: the judge, the prover's messages as the length that was written, and the pair reader's finding, or minus the
 // refusal's number.
+#![tactic(auto)]
 
 pub mod lent;
 pub mod messages;

@@ -1,4 +1,5 @@
 // Numbers of four bytes, little-endian (document 01), in lists of bytes, and lists of bytes compared.
+#![tactic(auto)]
 
 ghost use Rattle.std.specs.Prelude.{◌≡◌, ◌+◌, ◌*◌, ◌≤◌, ◌<◌, length, get_or};
 ghost use Rattle.lists.specs.Bytes.{le4, words, num};

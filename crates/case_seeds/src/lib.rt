@@ -1,1 +1,2 @@
 // The seeds of document 01's cases d to f: their numbers are laws in specs/, computed once.
+#![tactic(auto)]

@@ -1,4 +1,5 @@
 // The first two hash inputs of two transcripts that differ (document 01, Pair reader), as places in the lists that hold them.
+#![tactic(auto)]
 
 ghost use Rattle.std.specs.Prelude.{◌≡◌, false, List, ℕ, ◌+◌, ◌*◌, ◌-◌, ◌≤◌, ◌<◌, length};
 ghost use Rattle.lists.specs.Index.{cat};
@@ -12,7 +13,7 @@ use key::Numbers;
 
 // Two inputs that differ: their kind, the party from 1 on (N for Ω, 0 where none), and where both begin and how long both are, in the
 // lists of the list hashes or in those of the execution. Where no two inputs differ, each is 0 or false.
-#[derive(Drop)]
+#[derive(Clone, Copy)]
 pub struct Spot {
     pub kind: u32,
     pub party: usize,

@@ -1,4 +1,5 @@
 // One execution in lent lists: its seeds and shares, and the commitments to them.
+#![tactic(auto)]
 
 pub mod commit;
 pub mod prepare;

@@ -1,4 +1,5 @@
 // The hash inputs of one kept execution (document 01, Pair reader): h(e), Γ(1) .. Γ(N), Ω, Π and Ψ in one list of bytes.
+#![tactic(auto)]
 
 ghost use Rattle.std.specs.Prelude.{◌≡◌, ◌++◌, ◌+◌, ◌*◌, ◌-◌, ◌^◌, ◌%◌, ◌<◌, ◌≤◌, length, drop};
 ghost use Rattle.lists.specs.Index.{cat, part};

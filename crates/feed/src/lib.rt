@@ -1,4 +1,6 @@
 // Numbers into a running hash, four bytes each, the least significant first.
+#![tactic(auto)]
+
 ghost use Rattle.std.specs.Prelude.{◌≡◌, ◌+◌, ◌*◌, ◌%◌, ◌<◌, ◌≤◌, length, take};
 ghost use Rattle.sha.specs.State.{Fed};
 ghost use Rattle.lists.specs.Bytes.{words};

@@ -1,4 +1,5 @@
 // The finding of two transcripts that fork, from their hash inputs and joined values (document 01, Pair reader).
+#![tactic(auto)]
 
 ghost use Rattle.std.specs.Prelude.{◌≡◌, ◌+◌, ◌*◌, ◌-◌, ◌≤◌, ◌<◌, length};
 ghost use Rattle.key.specs.Numbers.{Limits, key_with};

@@ -1,4 +1,5 @@
 // Where two accepted transcripts of one first message fork (document 01, Pair reader). Executions and parties are counted from 0.
+#![tactic(auto)]
 
 ghost use Rattle.std.specs.Prelude.{◌≡◌, false, ◌≤◌, ◌<◌};
 ghost use Rattle.lists.specs.Index.{same};

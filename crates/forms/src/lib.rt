@@ -1,4 +1,5 @@
 // The form of the prover's inputs and of a transcript's lists (document 01, "Where each number is given", 7 to 10).
+#![tactic(auto)]
 
 ghost use Rattle.std.specs.Prelude.{◌≡◌, ◌∷◌, ◌+◌, ◌*◌, ◌%◌, ◌≤◌, ◌<◌, leb, ltb, length, get_or};
 ghost use Rattle.lists.specs.Index.{every};

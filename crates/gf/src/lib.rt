@@ -1,4 +1,5 @@
 // Bytes as elements of GF(2^8), FIPS 197, section 4.
+#![tactic(auto)]
 
 ghost use Rattle.std.specs.Prelude.{◌≡◌, ℕ, ◌<◌, ◌%◌};
 ghost use Rattle.gf.specs.Field.{gmul, inverse};

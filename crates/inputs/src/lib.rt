@@ -1,5 +1,6 @@
 // The hash inputs of a transcript (document 01, Pair reader), as the bytes that are compared and shown: those of h(e), Γ(1) .. Γ(N)
 // and Ω, each into a list of its length.
+#![tactic(auto)]
 
 ghost use Rattle.std.specs.Prelude.{◌≡◌, ◌++◌, ◌+◌, ◌*◌, ◌-◌, ◌<◌, ◌≤◌, length};
 ghost use Rattle.lists.specs.Index.{cat};

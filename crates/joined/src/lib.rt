@@ -1,4 +1,5 @@
 // The joined values of an execution (document 01, Pair reader): sums over the parties of their numbers b, d and s.
+#![tactic(auto)]
 
 ghost use Rattle.std.specs.Prelude.{◌≡◌, ◌+◌, ◌*◌, ◌%◌, ◌<◌, ◌≤◌, length};
 ghost use Rattle.lists.specs.Tab.{tab};

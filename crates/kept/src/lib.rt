@@ -1,4 +1,5 @@
 // A kept execution as the judge sees it.
+#![tactic(auto)]
 
 ghost use Rattle.std.specs.Prelude.{◌≡◌, suc, ◌+◌, ◌*◌, ◌^◌, ◌<◌, ◌≤◌, length, replicate};
 ghost use Rattle.numbers.specs.Inverse.{Member, Ns};
@@ -15,7 +16,7 @@ ghost use Rattle.kept.specs.Kept.{Shared, Answered, KeptIn, Evaluates};
 use execution::prepare;
 
 // Π and Ψ of a kept execution, and whether its outputs add up to 0 modulo q.
-#[derive(Drop)]
+#[derive(Clone, Copy)]
 pub struct Outcome {
     pub pi: [u8; 32],
     pub psi: [u8; 32],
@@ -85,7 +86,7 @@ fn omega_at(
 }
 
 // What the judge computes of a kept execution. Ω is 0 where party N is hidden.
-#[derive(Drop)]
+#[derive(Clone, Copy)]
 pub struct Evaluated {
     pub h: [u8; 32],
     pub omega: [u8; 32],

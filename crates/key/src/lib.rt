@@ -1,4 +1,5 @@
 // A key's bytes (document 01, Key): its six numbers, its limits, and the entries of A and t.
+#![tactic(auto)]
 
 ghost use Rattle.std.specs.Prelude.{◌≡◌, ◌++◌, ◌+◌, ◌*◌, ◌≤◌, ltb, length, drop};
 ghost use Rattle.lists.specs.Tab.{tab};
@@ -15,7 +16,7 @@ use numbers::{is_modulus, is_parties};
 use refusals::{KEY_ENTRY, KEY_LENGTH, KEY_LIMITS, KEY_MODULUS, KEY_SHORT};
 
 // q, n, m, N, M, τ.
-#[derive(Drop)]
+#[derive(Clone, Copy)]
 pub struct Numbers {
     pub q: u32,
     pub n: usize,

@@ -1,4 +1,5 @@
 // The line that the program prints: a verdict as text.
+#![tactic(auto)]
 
 ghost use Rattle.std.specs.Prelude.{◌≡◌, ◌++◌, ◌≤◌, length, take, drop};
 ghost use Rattle.line.specs.Line.{decimal, line_of};

@@ -1,4 +1,5 @@
 // The b and s of an execution that is dealt, without its d.
+#![tactic(auto)]
 
 ghost use Rattle.std.specs.Prelude.{◌≡◌, ◌+◌, ◌*◌, ◌^◌, ◌<◌, ◌≤◌, length};
 ghost use Rattle.numbers.specs.Inverse.{Member, qs};

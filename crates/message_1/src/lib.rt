@@ -1,4 +1,5 @@
 // Message 1: hΓ, the hash of h(1) .. h(M).
+#![tactic(auto)]
 
 ghost use Rattle.std.specs.Prelude.{◌≡◌, ◌+◌, ◌*◌, ◌^◌, ◌<◌, ◌≤◌, length};
 ghost use Rattle.lists.specs.Check.{accepted, first};

@@ -1,4 +1,5 @@
 // Message 3: the opened executions' master seeds, Ω of each kept execution, and hπ.
+#![tactic(auto)]
 
 ghost use Rattle.std.specs.Prelude.{◌≡◌, true, false, not, [], ◌++◌, ◌+◌, ◌*◌, ◌-◌, ◌^◌, ◌<◌, ◌≤◌, length, drop};
 ghost use Rattle.lists.specs.Written.{Puts};

@@ -1,4 +1,5 @@
 // Message 5: hψ, the hash of Ψ of each kept execution.
+#![tactic(auto)]
 
 ghost use Rattle.std.specs.Prelude.{◌≡◌, ◌+◌, ◌*◌, ◌^◌, ◌<◌, ◌≤◌, length};
 ghost use Rattle.lists.specs.Check.{accepted, first};

@@ -1,4 +1,5 @@
 // Message 7: the seed κ, and the reply of each kept execution.
+#![tactic(auto)]
 
 ghost use Rattle.std.specs.Prelude.{◌≡◌, true, ◌++◌, ◌+◌, ◌*◌, ◌-◌, ◌<◌, ◌≤◌, length, get_or, drop};
 ghost use Rattle.lists.specs.Check.{accepted, first};

@@ -1,4 +1,5 @@
 // Arithmetic modulo the three primes q of document 01. `reduced` has an arm for each q, so that its remainders are by constants.
+#![tactic(auto)]
 
 ghost use Rattle.std.specs.Prelude.{◌≡◌, ◌+◌, ◌*◌, ◌%◌, ◌<◌};
 ghost use Rattle.numbers.specs.Mod.{sub};

@@ -1,4 +1,5 @@
 // The outputs o(i) of the parties of one execution, from the key's entries, the verifier's seed and the shares.
+#![tactic(auto)]
 
 ghost use Rattle.std.specs.Prelude.{◌≡◌, ◌++◌, ◌+◌, ◌*◌, ◌%◌, ◌<◌, ◌≤◌, length, drop};
 ghost use Rattle.lists.specs.Tab.{tab, Filling};

@@ -13,7 +13,7 @@ use key::Numbers;
 use transcript::part_start;
 
 // The execution that the reader works on, counted from 0, and the party that each transcript hides in it.
-#[derive(Drop)]
+#[derive(Clone, Copy)]
 pub struct Place {
     pub execution: usize,
     pub hidden1: usize,

@@ -1,5 +1,6 @@
 // SHA-256, AES-128 and the streams of a seed as C functions: what the tests and the benchmark call. None has a
 // `requires`; the caller owes what premise P5 of docs/CLAIMS.md says.
+#![tactic(auto)]
 
 ghost use Rattle.std.specs.Prelude.{◌≡◌, length};
 ghost use Rattle.sha_core.specs.Fips180.{sha256};

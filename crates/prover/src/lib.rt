@@ -1,11 +1,12 @@
 // What the prover's calls answer and refuse (document 01, Shares and messages, level 1).
+#![tactic(auto)]
 
 ghost use Rattle.std.specs.Prelude.{◌≡◌, ◌++◌, ◌≤◌, length, take, drop};
 
 pub mod checks;
 
 // The length of the message that was written, or the number of the refusal.
-#[derive(Drop)]
+#[derive(Clone, Copy)]
 pub enum Answer {
     Length(usize),
     Refused(u32),
@@ -17,5 +18,5 @@ pub fn put(count: usize, src: &[u8], out: &mut [u8])
     requires count_in_bounds_2 { count ≤ length out.old }
     ensures { out.new ≡ take count src.now ++ drop count out.old }
 {
-    bytes::copy(&src[..count], out);
+    out[..count].copy_from_slice(&src[..count]);
 }

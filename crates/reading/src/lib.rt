@@ -1,4 +1,5 @@
 // What the pair reader makes of the joined values of an execution (document 01, Pair reader, findings 2 to 4).
+#![tactic(auto)]
 
 ghost use Rattle.std.specs.Prelude.{◌≡◌, ℕ, ◌+◌, ◌*◌, ◌%◌, ◌<◌, ◌≤◌, leb, length, get_or};
 ghost use Rattle.lists.specs.Index.{every};
@@ -16,7 +17,7 @@ use key::Numbers;
 
 // The number of a refusal; the kind, the execution, the party and the length of a collision; a secret; the execution, the
 // column, b and d of a square; the execution of a list of errors.
-#[derive(Drop)]
+#[derive(Clone, Copy)]
 pub enum Reading {
     Refused(u32),
     Collision(u32, usize, usize, usize),

@@ -1,5 +1,6 @@
 // The numbers that a refusal returns, in rising order; document 01's table "Where each number is given" has the order in which they are
 // tried. 0 stands for none.
+#![tactic(auto)]
 
 // The key, first in every call.
 // Under 24 bytes.

@@ -1,5 +1,6 @@
 // Judges the files `run01`, `run02` and so on up to `run99` with the file `key`, of each its first 65536 bytes, and prints the sheet of the
 // shift. The first run that cannot be opened ends it; a missing `key` is an empty one.
+#![tactic(auto)]
 
 ghost use Rattle.std.specs.Prelude.{◌≤◌, ◌≡◌, length};
 ghost use Rattle.io.specs.Counts.{IsPrefixLen};
@@ -8,7 +9,7 @@ ghost use Rattle.report.specs.Judged.{Judged};
 use libc::STDOUT_FILENO;
 
 // A file: whether it could be opened, and how many of its bytes were read; none of a directory.
-#[derive(Drop)]
+#[derive(Clone, Copy)]
 struct Loaded {
     open: bool,
     size: usize,

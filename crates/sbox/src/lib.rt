@@ -1,4 +1,5 @@
 // The S-box of AES, FIPS 197, 5.1.1, as a table.
+#![tactic(auto)]
 
 ghost use Rattle.std.specs.Prelude.{◌≡◌};
 ghost use Rattle.lists.specs.Tab.{tab};

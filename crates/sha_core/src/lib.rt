@@ -1,4 +1,6 @@
 // The compression function of SHA-256 (FIPS 180-4, 6.2.2). Sums modulo 2^32 are `wrapping_add_u32`.
+#![tactic(auto)]
+
 ghost use Rattle.std.specs.Prelude.{◌≡◌, ℕ, ◌+◌, ◌*◌, ◌%◌, ◌^◌, ◌<◌, ◌≤◌, List, length, take, slice_index};
 ghost use Rattle.sha_core.specs.Examples.{abc, abc_digest, letters, letters_digest};
 ghost use Rattle.sha_core.specs.Filled.{Filled};

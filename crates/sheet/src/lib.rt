@@ -1,4 +1,5 @@
 // The sheet of a shift (document 02, U1): a line for each run and the numbers of accepted, of refused and of all runs.
+#![tactic(auto)]
 
 ghost use Rattle.std.specs.Prelude.{◌≡◌, List, ◌∷◌, [], ◌++◌, ℕ, ◌+◌, ◌*◌, ◌≤◌, ◌<◌, eqb, ltb, length, take, drop};
 ghost use Rattle.lists.specs.Index.{pick};

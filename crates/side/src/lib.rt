@@ -1,5 +1,6 @@
 // One side of a fork (document 01, Pair reader): a kept execution of an accepted transcript, its shares and its hash inputs.
 // Executions and parties are counted from 0.
+#![tactic(auto)]
 
 ghost use Rattle.std.specs.Prelude.{◌≡◌, false, ◌+◌, ◌*◌, ◌≤◌, ◌<◌, length};
 ghost use Rattle.numbers.specs.Sum.{sum};

@@ -1,4 +1,5 @@
 // Document 01, Hash and streams: the blocks of a seed.
+#![tactic(auto)]
 
 ghost use Rattle.std.specs.Prelude.{◌≡◌, ◌++◌, ◌+◌, ◌*◌, ◌-◌, ◌/◌, ◌%◌, ◌^◌, ◌<◌, ◌≤◌, min, length};
 ghost use Rattle.lists.specs.Tab.{tab};
@@ -35,7 +36,7 @@ pub fn copy(src: &[u8], out: &mut [u8])
     requires { length src.now ≡ length out.old }
     ensures { out.new ≡ src.now }
 {
-    bytes::copy(src, out);
+    out.copy_from_slice(src);
 }
 
 // a, then b.

@@ -1,5 +1,6 @@
 // The form of a transcript (document 01, Transcript): its header, where its seven parts stand, and the lengths and numbers of part 7.
 // Parts and executions are counted from 0.
+#![tactic(auto)]
 
 ghost use Rattle.std.specs.Prelude.{◌≡◌, false, [], ℕ, ◌+◌, ◌*◌, ◌≤◌, ◌<◌, eqb, ltb, length, get_or};
 ghost use Rattle.lists.specs.Index.{every};

@@ -1,4 +1,5 @@
 // Document 01, Seed tree: all leaves of a seed, the opening that leaves one out, and the leaves of an opening.
+#![tactic(auto)]
 
 ghost use Rattle.std.specs.Prelude.{◌≡◌, ◌*◌, ◌^◌, ◌<◌, ◌≤◌, length};
 ghost use Rattle.lists.specs.Index.{cat};

@@ -1,5 +1,6 @@
 // Judges the files `key` and `run`, of each its first 65536 bytes, and prints one line: `accepted`, or `refused` and the number. A missing
 // file is an empty one.
+#![tactic(auto)]
 
 ghost use Rattle.io.specs.Counts.{IsPrefixLen};
 

@@ -13,7 +13,7 @@ use execution::prepare;
 use refusals::{OMEGA, OUTPUT_SUM};
 
 // What the judge computes of an execution, of an opened one only h; rank and place of the next one.
-#[derive(Drop)]
+#[derive(Clone, Copy)]
 pub struct Step {
     pub code: u32,
     pub h: [u8; 32],
