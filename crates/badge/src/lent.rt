@@ -11,21 +11,14 @@ ghost use Rattle.answer.specs.Codes.{code_of};
 use answer::code::code;
 
 // The first number of document 01's table that applies to a key and a transcript, or 0: accepted.
-#[unsafe(no_mangle)]
-pub extern "C" fn badge_judge_lent(
-    key: &[u8],
-    run: &[u8],
-    entries: &mut [u32],
-    work: &mut [u32],
-) -> u32
+pub fn badge_judge_lent(key: &[u8], run: &[u8], entries: &mut [u32], work: &mut [u32]) -> u32
     ensures { result ≡ number_of (judge_lent key.now (length work.old) (length entries.old) run.now) }
 {
     judge::run::judge(key, run, entries, work)
 }
 
 // Message 1 into the output from a place on.
-#[unsafe(no_mangle)]
-pub extern "C" fn badge_message_1_lent(
+pub fn badge_message_1_lent(
     key: &[u8],
     seeds: &[u8],
     out: &mut [u8],
@@ -41,8 +34,7 @@ pub extern "C" fn badge_message_1_lent(
 }
 
 // Message 3 into the output from a place on.
-#[unsafe(no_mangle)]
-pub extern "C" fn badge_message_3_lent(
+pub fn badge_message_3_lent(
     key: &[u8],
     seeds: &[u8],
     secret: &[u8],
@@ -71,8 +63,7 @@ pub extern "C" fn badge_message_3_lent(
 }
 
 // Message 5 into the output from a place on.
-#[unsafe(no_mangle)]
-pub extern "C" fn badge_message_5_lent(
+pub fn badge_message_5_lent(
     key: &[u8],
     seeds: &[u8],
     secret: &[u8],
@@ -103,8 +94,7 @@ pub extern "C" fn badge_message_5_lent(
 }
 
 // Message 7 into the output from a place on.
-#[unsafe(no_mangle)]
-pub extern "C" fn badge_message_7_lent(
+pub fn badge_message_7_lent(
     key: &[u8],
     seeds: &[u8],
     secret: &[u8],

@@ -1,5 +1,5 @@
-// The calls for C: the judge, the prover's messages as the length that was written, and the pair reader's finding, or minus the
-// refusal's number.
+// The calls that crate `badge_c` gives to C: the judge, the prover's messages as the length that was written, and the pair reader's
+// finding, or minus the refusal's number.
 #![tactic(auto)]
 
 pub mod lent;
@@ -11,8 +11,7 @@ ghost use Rattle.refusals.specs.Number.{number_of};
 ghost use Rattle.protocol.specs.Judge.{judge};
 
 // The first number of document 01's table that applies to a key and a transcript, or 0: accepted. Both work lists are its own.
-#[unsafe(no_mangle)]
-pub extern "C" fn badge_judge(key: &[u8], run: &[u8]) -> u32
+pub fn badge_judge(key: &[u8], run: &[u8]) -> u32
     ensures { result ≡ number_of (judge key.now run.now) }
 {
     let mut entries = [0u32; 4128];

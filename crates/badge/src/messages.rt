@@ -9,8 +9,7 @@ ghost use Rattle.answer.specs.Codes.{code_of};
 use answer::code::code;
 
 // Message 1 into the output from a place on.
-#[unsafe(no_mangle)]
-pub extern "C" fn badge_message_1(key: &[u8], seeds: &[u8], out: &mut [u8], place: u64) -> i64
+pub fn badge_message_1(key: &[u8], seeds: &[u8], out: &mut [u8], place: u64) -> i64
     ensures value { result ≡ code_of (answer_of (verdict1 key.now seeds.now (length out.old) place 16384 4128) (message1 (key_of key.now) seeds.now)) }
     ensures out_after { out.new ≡ output (verdict1 key.now seeds.now (length out.old) place 16384 4128) (message1 (key_of key.now) seeds.now) place out.old }
 {
@@ -21,8 +20,7 @@ pub extern "C" fn badge_message_1(key: &[u8], seeds: &[u8], out: &mut [u8], plac
 }
 
 // Message 3 into the output from a place on.
-#[unsafe(no_mangle)]
-pub extern "C" fn badge_message_3(
+pub fn badge_message_3(
     key: &[u8],
     seeds: &[u8],
     secret: &[u8],
@@ -51,8 +49,7 @@ pub extern "C" fn badge_message_3(
 }
 
 // Message 5 into the output from a place on.
-#[unsafe(no_mangle)]
-pub extern "C" fn badge_message_5(
+pub fn badge_message_5(
     key: &[u8],
     seeds: &[u8],
     secret: &[u8],
@@ -83,8 +80,7 @@ pub extern "C" fn badge_message_5(
 }
 
 // Message 7 into the output from a place on.
-#[unsafe(no_mangle)]
-pub extern "C" fn badge_message_7(
+pub fn badge_message_7(
     key: &[u8],
     seeds: &[u8],
     secret: &[u8],

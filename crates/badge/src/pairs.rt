@@ -56,8 +56,7 @@ fn read(
 }
 
 // What must lie behind two transcripts, over lent lists.
-#[unsafe(no_mangle)]
-pub extern "C" fn badge_pair_lent(
+pub fn badge_pair_lent(
     key: &[u8],
     run1: &[u8],
     run2: &[u8],
@@ -82,8 +81,7 @@ pub extern "C" fn badge_pair_lent(
 }
 
 // What must lie behind two transcripts; both work lists are its own.
-#[unsafe(no_mangle)]
-pub extern "C" fn badge_pair(
+pub fn badge_pair(
     key: &[u8],
     run1: &[u8],
     run2: &[u8],
