@@ -4,9 +4,7 @@ use Rattle.std.specs.Prelude.{ℕ, ◌+◌, ◌*◌, ◌-◌, ◌/◌, ◌%◌, 
 use Rattle.std.proofs.Common.{sym, ◌∙◌, subst, inl, inr, ⊎_elim, mod-eq_of_lt, arith, eqb-true, eq-eqb, ne_eqb}
 use Rattle.lists.specs.Index.{pick, member}
 use Rattle.numbers.specs.Mod.{Cong}
-use Rattle.numbers.proofs.Mod.{cong_refl, cong_trans, cong_eq, cong_mul}
 use Rattle.numbers.specs.Prime.{Prime}
-use Rattle.numbers.proofs.Prime.{prime_257, prime_65537, prime_2147483647}
 
 -- x stands in the list l.
 pub record Member (x : ℕ) (l : List ℕ) : Type 0 where
