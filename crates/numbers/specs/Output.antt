@@ -1,10 +1,9 @@
 -- Document 01, Shares and messages: the output o(i) of a party, and what the sum of all outputs says. Indices count from 0.
 -- Assumes nothing.
-use Rattle.std.specs.Prelude.{ℕ, zero, suc, ◌+◌, ◌*◌, ◌%◌, ◌<◌, ◌≤◌, ◌≡◌}
-use Rattle.std.proofs.Common.{sym, ◌∙◌, ap, ap₂, mod-lt, mul-zero, zero-add, arith}
+use Rattle.std.specs.Prelude.{ℕ, ◌+◌, ◌*◌, ◌%◌, ◌<◌, ◌≤◌, ◌≡◌}
 use Rattle.numbers.specs.Mod.{Cong, sub}
 use Rattle.numbers.specs.Sum.{sum}
-use Rattle.numbers.specs.Inverse.{Member, qs, Ns, inverse_of}
+use Rattle.numbers.specs.Inverse.{inverse_of}
 
 -- The numbers of one execution: N parties, n rows, m columns; A(l, k) and t(l) of the key; the coefficients β(l) and γ(k);
 -- s(k, i), b(k, i) and d(k, i), the shares of party i.

@@ -8,10 +8,30 @@ use Rattle.lists.specs.CatLaws.{words-tab}
 use Rattle.views.proofs.Laws.{front, sum-front}
 use Rattle.execution_inputs.proofs.alpha_bytes.Goals as goal
 
-pub alpha_row-row-requires : goal.alpha_row-row-requires
-alpha_row-row-requires c =
+pub alpha_row-row-requires-clause-limits : goal.alpha_row-row-requires-clause-limits
+alpha_row-row-requires-clause-limits c =
     let p = c.requires in
-    (p.limits, (p.reduced, (p.k_lt_m, (p.m_in_bounds, p.parties_in_bounds))))
+    p.limits
+
+pub alpha_row-row-requires-clause-reduced : goal.alpha_row-row-requires-clause-reduced
+alpha_row-row-requires-clause-reduced c =
+    let p = c.requires in
+    p.reduced
+
+pub alpha_row-row-requires-clause-k_lt_m : goal.alpha_row-row-requires-clause-k_lt_m
+alpha_row-row-requires-clause-k_lt_m c =
+    let p = c.requires in
+    p.k_lt_m
+
+pub alpha_row-row-requires-clause-m_in_bounds : goal.alpha_row-row-requires-clause-m_in_bounds
+alpha_row-row-requires-clause-m_in_bounds c =
+    let p = c.requires in
+    p.m_in_bounds
+
+pub alpha_row-row-requires-clause-parties_in_bounds : goal.alpha_row-row-requires-clause-parties_in_bounds
+alpha_row-row-requires-clause-parties_in_bounds c =
+    let p = c.requires in
+    p.parties_in_bounds
 
 pub slice_bounds-put_numbers-end : goal.slice_bounds-put_numbers-end
 slice_bounds-put_numbers-end c =

@@ -16,12 +16,12 @@ loop-k-init c = (search rules, omega arith, refl, refl, built_none _ _, refl)
 
 pub overflow_add-end : goal.overflow_add-end
 overflow_add-end c =
-    let ends : c.loop-k.at + 4 * c.args.parties ≤ length c.loop-k.out = omega (arith, row_ends (4 * c.args.parties) c.args.m c.loop-k.k c.loop-k.at c.loop-k.invariant.1 c.loop-k-test.true, c.loop-k.invariant.2, c.requires.out_len) in
+    let ends : c.loop-k.at + 4 * c.args.parties ≤ length c.loop-k.out = (omega (arith, row_ends (4 * c.args.parties) c.args.m c.loop-k.k c.loop-k.at c.loop-k.invariant.1 c.loop-k-test.true, c.loop-k.invariant.2, c.requires.out_len)) in
     omega (arith, ends)
 
 pub slice_bounds-alpha_bytes-end : goal.slice_bounds-alpha_bytes-end
 slice_bounds-alpha_bytes-end c =
-    let ends : c.loop-k.at + 4 * c.args.parties ≤ length c.loop-k.out = omega (arith, row_ends (4 * c.args.parties) c.args.m c.loop-k.k c.loop-k.at c.loop-k.invariant.1 c.loop-k-test.true, c.loop-k.invariant.2, c.requires.out_len) in
+    let ends : c.loop-k.at + 4 * c.args.parties ≤ length c.loop-k.out = (omega (arith, row_ends (4 * c.args.parties) c.args.m c.loop-k.k c.loop-k.at c.loop-k.invariant.1 c.loop-k-test.true, c.loop-k.invariant.2, c.requires.out_len)) in
     omega (arith, ends)
 
 pub alpha_bytes-a-requires-clause-limits : goal.alpha_bytes-a-requires-clause-limits
@@ -49,7 +49,7 @@ alpha_bytes-a-requires-clause-parties_in_bounds c =
 
 pub alpha_bytes-a-requires-clause-out_len : goal.alpha_bytes-a-requires-clause-out_len
 alpha_bytes-a-requires-clause-out_len c =
-    let ends : c.loop-k.at + 4 * c.args.parties ≤ length c.loop-k.out = omega (arith, row_ends (4 * c.args.parties) c.args.m c.loop-k.k c.loop-k.at c.loop-k.invariant.1 c.loop-k-test.true, c.loop-k.invariant.2, c.requires.out_len) in
+    let ends : c.loop-k.at + 4 * c.args.parties ≤ length c.loop-k.out = (omega (arith, row_ends (4 * c.args.parties) c.args.m c.loop-k.k c.loop-k.at c.loop-k.invariant.1 c.loop-k-test.true, c.loop-k.invariant.2, c.requires.out_len)) in
     within _ _ _ ends
 
 pub bounds-sums-k : goal.bounds-sums-k
@@ -57,7 +57,7 @@ bounds-sums-k c = omega (arith, c.loop-k-test.true, c.loop-k.invariant.3, c.requ
 
 pub loop-k-preserved : goal.loop-k-preserved
 loop-k-preserved c =
-    let ends : c.loop-k.at + 4 * c.args.parties ≤ length c.loop-k.out = omega (arith, row_ends (4 * c.args.parties) c.args.m c.loop-k.k c.loop-k.at c.loop-k.invariant.1 c.loop-k-test.true, c.loop-k.invariant.2, c.requires.out_len) in
+    let ends : c.loop-k.at + 4 * c.args.parties ≤ length c.loop-k.out = (omega (arith, row_ends (4 * c.args.parties) c.args.m c.loop-k.k c.loop-k.at c.loop-k.invariant.1 c.loop-k-test.true, c.loop-k.invariant.2, c.requires.out_len)) in
     let l = c.loop-k in
     let a = c.args in
     let r = c.alpha_bytes-a in

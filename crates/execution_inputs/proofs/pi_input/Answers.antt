@@ -46,7 +46,7 @@ pub returns-clause-out_after : goal.returns-clause-out_after
 returns-clause-out_after c =
     let a = c.args in
     let n = c.alphas in
-    parts_joined a.out.now n.new.out _ (length a.out.now - 16) (n.auto.out ∙ length-take-le (length a.out.now - 16) a.out.now (omega arith)) n.ensures.out_after (c.copy.ensures ∙ c.Block-of.ensures) ∙ pi_label _ _
+    parts_joined a.out.now n.new.out _ (length a.out.now - 16) (n.auto.out ∙ length-take-le (length a.out.now - 16) a.out.now (omega arith)) n.ensures.out_after (c.copy.ensures ∙ c.block_of-g.ensures) ∙ pi_label _ _
 
 pub returns-clause-sums_after : goal.returns-clause-sums_after
 returns-clause-sums_after c =

@@ -1,5 +1,4 @@
 use mathlib.Core.Path.{refl}
-use Prim.Native.Nat.{◌-◌}
 use native.Mathlib.Omega.{arith}
 use Rattle.lists.specs.Bytes.{words}
 use Rattle.feed.proofs.Laws.{laid_more, laid_all}
@@ -20,8 +19,7 @@ loop-i-preserved c =
     )
 
 pub returns : goal.returns
-returns c =
-    (
+returns c = (
   c.loop-i.invariant.1,
   laid_all c.loop-i.b c.args.xs.now c.loop-i.i (omega arith) c.loop-i.invariant.2,
 )

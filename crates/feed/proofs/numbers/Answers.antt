@@ -1,4 +1,3 @@
-use Prim.Native.Nat.{◌-◌}
 use native.Mathlib.Omega.{arith}
 use Rattle.sha.specs.State.{fed_nil}
 use Rattle.lists.specs.Bytes.{words}

@@ -9,10 +9,28 @@ use Rattle.inputs.proofs.h_input.Goals as goal
 pub loop-i-init : goal.loop-i-init
 loop-i-init c = (search rules, refl, built_none _ _)
 
-pub gamma_at-g-requires : goal.gamma_at-g-requires
-gamma_at-g-requires c =
+pub gamma_at-g-requires-clause-bounded : goal.gamma_at-g-requires-clause-bounded
+gamma_at-g-requires-clause-bounded c =
     let p = c.requires in
-    (p.bounded, (c.loop-i-test.true, (p.given_len, (p.leaves_len, p.parties_in_bounds))))
+    p.bounded
+
+pub gamma_at-g-requires-clause-i_lt_parties : goal.gamma_at-g-requires-clause-i_lt_parties
+gamma_at-g-requires-clause-i_lt_parties c = c.loop-i-test.true
+
+pub gamma_at-g-requires-clause-given_len : goal.gamma_at-g-requires-clause-given_len
+gamma_at-g-requires-clause-given_len c =
+    let p = c.requires in
+    p.given_len
+
+pub gamma_at-g-requires-clause-leaves_len : goal.gamma_at-g-requires-clause-leaves_len
+gamma_at-g-requires-clause-leaves_len c =
+    let p = c.requires in
+    p.leaves_len
+
+pub gamma_at-g-requires-clause-parties_in_bounds : goal.gamma_at-g-requires-clause-parties_in_bounds
+gamma_at-g-requires-clause-parties_in_bounds c =
+    let p = c.requires in
+    p.parties_in_bounds
 
 pub loop-i-preserved : goal.loop-i-preserved
 loop-i-preserved c =

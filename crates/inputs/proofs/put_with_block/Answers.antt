@@ -18,4 +18,4 @@ returns c =
     let a = c.args in
     let n = c.put_numbers in
     parts_joined a.out.now n.new.out _ (4 * length a.xs.now) (n.auto.out ∙ length-take-le (4 * length a.xs.now) a.out.now (omega arith)) n.ensures
-    (c.copy.ensures ∙ c.Block-of.ensures)
+    (c.copy.ensures ∙ c.block_of-b.ensures)

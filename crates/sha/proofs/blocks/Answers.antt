@@ -1,4 +1,4 @@
-use Rattle.std.proofs.Common.{◌-◌, arith, rules}
+use Rattle.std.proofs.Common.{arith, rules}
 use Rattle.sha.proofs.Laws.{blocks-none, blocks_more, blocks_all}
 use Rattle.sha.proofs.blocks.Goals as goal
 

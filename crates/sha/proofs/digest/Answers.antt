@@ -1,4 +1,4 @@
-use Rattle.std.proofs.Common.{◌≡◌, ◌-◌, sym, refl, ◌∙◌, arith, take_all, rules}
+use Rattle.std.proofs.Common.{◌≡◌, sym, refl, ◌∙◌, arith, take_all, rules}
 use Rattle.sha_core.specs.Fips180.{bytes}
 use Rattle.sha.proofs.Laws.{bytes-more}
 use Rattle.sha.proofs.digest.Goals as goal

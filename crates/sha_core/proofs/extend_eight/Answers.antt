@@ -1,4 +1,4 @@
-use Rattle.std.proofs.Common.{◌≡◌, ◌+◌, ◌-◌, arith, rules}
+use Rattle.std.proofs.Common.{◌≡◌, ◌+◌, arith, rules}
 use Rattle.sha_core.proofs.Laws.{more}
 use Rattle.sha_core.proofs.extend_eight.Goals as goal
 

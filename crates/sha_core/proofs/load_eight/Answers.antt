@@ -1,4 +1,4 @@
-use Rattle.std.proofs.Common.{◌≡◌, ◌+◌, ◌-◌, sym, ◌∙◌, arith, rules}
+use Rattle.std.proofs.Common.{◌≡◌, ◌+◌, sym, ◌∙◌, arith, rules}
 use Rattle.sha_core.specs.Fips180.{M}
 use Rattle.sha_core.proofs.Laws.{more, loaded}
 use Rattle.sha_core.proofs.load_eight.Goals as goal

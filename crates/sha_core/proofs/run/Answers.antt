@@ -1,4 +1,4 @@
-use Rattle.std.proofs.Common.{◌≡◌, ℕ, ◌+◌, ◌-◌, ◌*◌, List, sym, refl, ◌∙◌, arith, rules}
+use Rattle.std.proofs.Common.{◌≡◌, ℕ, ◌+◌, ◌*◌, List, sym, refl, ◌∙◌, arith, rules}
 use Rattle.sha_core.specs.Fips180.{schedule, rounds}
 use Rattle.sha_core.proofs.Laws.{schedule-front}
 use Rattle.sha_core.proofs.run.Goals as goal

@@ -8,36 +8,52 @@ use borrow.Author.Rules.{rules}
 use Rattle.response.proofs.reply.alpha.Goals as goal
 
 pub overflow_mul-own-2 : goal.overflow_mul-own-2
-overflow_mul-own-2 c = omega (arith, (room (c)).0, (room (c)).1)
+overflow_mul-own-2 c =
+    let room : (3 * c.args.m * c.args.i + 3 * c.args.m ≤ 3 * c.args.m * c.args.parties)
+    × (3 * c.args.m * c.args.parties ≤ 12288) = (let a = c.args in
+    (inside a.m a.parties a.i (search rules), small a.m a.parties (search rules) (search rules))) in
+    omega (arith, room.0, room.1)
 
 pub overflow_add-s-2 : goal.overflow_add-s-2
-overflow_add-s-2 c = omega (arith, (room (c)).0, (room (c)).1)
+overflow_add-s-2 c =
+    let room : (3 * c.args.m * c.args.i + 3 * c.args.m ≤ 3 * c.args.m * c.args.parties)
+    × (3 * c.args.m * c.args.parties ≤ 12288) = (let a = c.args in
+    (inside a.m a.parties a.i (search rules), small a.m a.parties (search rules) (search rules))) in
+    omega (arith, room.0, room.1)
 
 pub overflow_add-b : goal.overflow_add-b
-overflow_add-b c = omega (arith, (room (c)).0, (room (c)).1)
+overflow_add-b c =
+    let room : (3 * c.args.m * c.args.i + 3 * c.args.m ≤ 3 * c.args.m * c.args.parties)
+    × (3 * c.args.m * c.args.parties ≤ 12288) = (let a = c.args in
+    (inside a.m a.parties a.i (search rules), small a.m a.parties (search rules) (search rules))) in
+    omega (arith, room.0, room.1)
 
 pub offset_bounds-work-s : goal.offset_bounds-work-s
-offset_bounds-work-s c = omega (arith, (room (c)).0, (room (c)).1)
+offset_bounds-work-s c =
+    let room : (3 * c.args.m * c.args.i + 3 * c.args.m ≤ 3 * c.args.m * c.args.parties)
+    × (3 * c.args.m * c.args.parties ≤ 12288) = (let a = c.args in
+    (inside a.m a.parties a.i (search rules), small a.m a.parties (search rules) (search rules))) in
+    omega (arith, room.0, room.1)
 
 pub bounds-work-s : goal.bounds-work-s
 bounds-work-s c =
     let room : (3 * c.args.m * c.args.i + 3 * c.args.m ≤ 3 * c.args.m * c.args.parties)
-    × (3 * c.args.m * c.args.parties ≤ 12288) = let a = c.args in
-    (inside a.m a.parties a.i (search rules), small a.m a.parties (search rules) (search rules)) in
+    × (3 * c.args.m * c.args.parties ≤ 12288) = (let a = c.args in
+    (inside a.m a.parties a.i (search rules), small a.m a.parties (search rules) (search rules))) in
     omega (arith, room.0, room.1)
 
 pub offset_bounds-work-b : goal.offset_bounds-work-b
 offset_bounds-work-b c =
     let room : (3 * c.args.m * c.args.i + 3 * c.args.m ≤ 3 * c.args.m * c.args.parties)
-    × (3 * c.args.m * c.args.parties ≤ 12288) = let a = c.args in
-    (inside a.m a.parties a.i (search rules), small a.m a.parties (search rules) (search rules)) in
+    × (3 * c.args.m * c.args.parties ≤ 12288) = (let a = c.args in
+    (inside a.m a.parties a.i (search rules), small a.m a.parties (search rules) (search rules))) in
     omega (arith, room.0, room.1)
 
 pub bounds-work-b : goal.bounds-work-b
 bounds-work-b c =
     let room : (3 * c.args.m * c.args.i + 3 * c.args.m ≤ 3 * c.args.m * c.args.parties)
-    × (3 * c.args.m * c.args.parties ≤ 12288) = let a = c.args in
-    (inside a.m a.parties a.i (search rules), small a.m a.parties (search rules) (search rules)) in
+    × (3 * c.args.m * c.args.parties ≤ 12288) = (let a = c.args in
+    (inside a.m a.parties a.i (search rules), small a.m a.parties (search rules) (search rules))) in
     omega (arith, room.0, room.1)
 
 pub sub_mod-requires-clause-member : goal.sub_mod-requires-clause-member

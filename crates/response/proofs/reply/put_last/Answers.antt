@@ -12,25 +12,45 @@ returns-then-hidden-parties c =
     last_none a.m a.parties a.hidden a.work.now a.out.now c.if-hidden-parties.true c.requires.out_len
 
 pub overflow_mul-from-2 : goal.overflow_mul-from-2
-overflow_mul-from-2 c = omega (arith, (room (c)).0, (room (c)).1)
+overflow_mul-from-2 c =
+    let room : (3 * c.args.m * (c.args.parties - 1) + 3 * c.args.m ≤ 3 * c.args.m * c.args.parties)
+    × (3 * c.args.m * c.args.parties ≤ 12288) = (let a = c.args in
+    (inside a.m a.parties (a.parties - 1) (omega arith), small a.m a.parties (search rules) (search rules))) in
+    omega (arith, room.0, room.1)
 
 pub overflow_add-from : goal.overflow_add-from
-overflow_add-from c = omega (arith, (room (c)).0, (room (c)).1)
+overflow_add-from c =
+    let room : (3 * c.args.m * (c.args.parties - 1) + 3 * c.args.m ≤ 3 * c.args.m * c.args.parties)
+    × (3 * c.args.m * c.args.parties ≤ 12288) = (let a = c.args in
+    (inside a.m a.parties (a.parties - 1) (omega arith), small a.m a.parties (search rules) (search rules))) in
+    omega (arith, room.0, room.1)
 
 pub overflow_add-to : goal.overflow_add-to
-overflow_add-to c = omega (arith, (room (c)).0, (room (c)).1)
+overflow_add-to c =
+    let room : (3 * c.args.m * (c.args.parties - 1) + 3 * c.args.m ≤ 3 * c.args.m * c.args.parties)
+    × (3 * c.args.m * c.args.parties ≤ 12288) = (let a = c.args in
+    (inside a.m a.parties (a.parties - 1) (omega arith), small a.m a.parties (search rules) (search rules))) in
+    omega (arith, room.0, room.1)
 
 pub offset_bounds-work-from : goal.offset_bounds-work-from
-offset_bounds-work-from c = omega (arith, (room (c)).0, (room (c)).1)
+offset_bounds-work-from c =
+    let room : (3 * c.args.m * (c.args.parties - 1) + 3 * c.args.m ≤ 3 * c.args.m * c.args.parties)
+    × (3 * c.args.m * c.args.parties ≤ 12288) = (let a = c.args in
+    (inside a.m a.parties (a.parties - 1) (omega arith), small a.m a.parties (search rules) (search rules))) in
+    omega (arith, room.0, room.1)
 
 pub slice_bounds-put_numbers-end : goal.slice_bounds-put_numbers-end
-slice_bounds-put_numbers-end c = omega (arith, (room (c)).0, (room (c)).1)
+slice_bounds-put_numbers-end c =
+    let room : (3 * c.args.m * (c.args.parties - 1) + 3 * c.args.m ≤ 3 * c.args.m * c.args.parties)
+    × (3 * c.args.m * c.args.parties ≤ 12288) = (let a = c.args in
+    (inside a.m a.parties (a.parties - 1) (omega arith), small a.m a.parties (search rules) (search rules))) in
+    omega (arith, room.0, room.1)
 
 pub put_numbers-requires : goal.put_numbers-requires
 put_numbers-requires c =
     let room : (3 * c.args.m * (c.args.parties - 1) + 3 * c.args.m ≤ 3 * c.args.m * c.args.parties)
-    × (3 * c.args.m * c.args.parties ≤ 12288) = let a = c.args in
-    (inside a.m a.parties (a.parties - 1) (omega arith), small a.m a.parties (search rules) (search rules)) in
+    × (3 * c.args.m * c.args.parties ≤ 12288) = (let a = c.args in
+    (inside a.m a.parties (a.parties - 1) (omega arith), small a.m a.parties (search rules) (search rules))) in
     let a = c.args in
     last-room a.m a.parties a.hidden a.work.now _ c.if-hidden-parties.false c.requires.out_len (omega (arith, room.0, c.requires.parties_in_bounds))
 
