@@ -44,6 +44,17 @@ def declared():
     return names - types, types, top
 
 
+def brought(text):
+    """The names that a file takes from the kit: they keep their spelling there."""
+    own = {path.name for path in pathlib.Path("crates").iterdir()}
+    found = set()
+    for module, names in re.findall(r"^(?:ghost |pub )*use ([^\s{]+)\.\{([^}]*)\}", text, re.M):
+        parts = module.split(".")
+        if parts[0] != "Rattle" or parts[1] not in own:
+            found.update(re.split(r"[,\s]+", names))
+    return found
+
+
 def snake(word):
     """A camel word in snake case, a capital being a word."""
     out = ""
@@ -99,7 +110,8 @@ def main():
         if len(olds) > 1 or new in tokens:
             print(f"look: {', '.join(olds)} -> {new}" + (" (stands already)" if new in tokens else ""))
     for path, text in texts.items():
-        turned = TOKEN.sub(lambda m: table.get(m[0], m[0]), text)
+        kit = brought(text)
+        turned = TOKEN.sub(lambda m: m[0] if m[0] in kit else table.get(m[0], m[0]), text)
         if turned != text:
             path.write_text(turned)
     if sys.argv[1:2] == ["--map"]:

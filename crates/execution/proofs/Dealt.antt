@@ -13,8 +13,9 @@ use lib.Dec.{eqb}
 use lib.ListN.{length, get_or}
 use Rattle.lists.specs.Index.{pick, cat, part}
 use Rattle.lists.specs.CatLaws.{cat-part, cat-length}
-use Rattle.numbers.specs.Mod.{sub, sub-lt}
-use Rattle.numbers.specs.Sum.{sum_ext}
+use Rattle.numbers.specs.Mod.{sub}
+use Rattle.numbers.proofs.Mod.{sub-lt}
+use Rattle.numbers.proofs.Sum.{sum_ext}
 use Rattle.streams.specs.Streams.{number, draw, number_lt}
 use Rattle.tree.specs.Tree.{leaf}
 use Rattle.tree.specs.TreeLaws.{leaf-length}

@@ -15,8 +15,10 @@ use lib.Seq.{length-take-le, get_or-append-add, get_or-take, get_or-drop, get_or
 use Rattle.lists.specs.Tab.{tab, tab-at, tab-length}
 use Rattle.lists.specs.Index.{pick}
 use Rattle.execution.specs.Shown.{place_of}
-use Rattle.numbers.specs.Mod.{Cong, cong_eq, cong_trans, cong_mod, cong_mul, cong_same, cong_refl, sub, sub_cong, sub-lt}
-use Rattle.numbers.specs.Sum.{sum, sum_ext}
+use Rattle.numbers.specs.Mod.{Cong, sub}
+use Rattle.numbers.proofs.Mod.{cong_eq, cong_trans, cong_mod, cong_mul, cong_same, cong_refl, sub_cong, sub-lt}
+use Rattle.numbers.specs.Sum.{sum}
+use Rattle.numbers.proofs.Sum.{sum_ext}
 use Rattle.streams.specs.Streams.{number}
 use Rattle.execution.specs.Lists.{Put, count_of, Drawn, column_of, last_d, last_s}
 

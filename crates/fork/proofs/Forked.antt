@@ -13,7 +13,8 @@ use Rattle.lists.specs.Index.{same}
 use Rattle.lists.specs.Check.{accepted, first}
 use Rattle.lists.specs.TestLaws.{decide, same_eq, same_differ, holds-each}
 use Rattle.numbers.specs.Sum.{sum}
-use Rattle.numbers.specs.Inverse.{Member, qs, Ns, parties_least}
+use Rattle.numbers.specs.Inverse.{Member, qs, Ns}
+use Rattle.numbers.proofs.Inverse.{parties_least}
 use Rattle.protocol.specs.Key.{Key, kept_count, key_of}
 use Rattle.protocol.specs.Prover.{opened, place, hidden_of}
 use Rattle.protocol.specs.Transcript.{Parts, parts_of}

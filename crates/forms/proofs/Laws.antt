@@ -11,8 +11,9 @@ use borrow.Author.Tests.{eq-eqb, ne_eqb}
 use Rattle.lists.specs.Index.{every, member}
 use Rattle.lists.specs.Bytes.{num}
 use Rattle.lists.specs.TestLaws.{every_stops, member_entry, member_no, each_holds, holds-fails}
-use Rattle.numbers.specs.Mod.{cong_refl}
-use Rattle.numbers.specs.Sum.{sum, loop_next}
+use Rattle.numbers.proofs.Mod.{cong_refl}
+use Rattle.numbers.specs.Sum.{sum}
+use Rattle.numbers.proofs.Sum.{loop_next}
 use Rattle.protocol.specs.Key.{Key, A, t, kept_count, key_of}
 use Rattle.protocol.specs.Prover.{opened, good_e, good_hidden, solves, binary}
 use Rattle.key.specs.declared.Numbers.{Numbers}

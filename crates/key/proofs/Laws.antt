@@ -12,7 +12,8 @@ use Rattle.lists.specs.Check.{first}
 use Rattle.lists.specs.Tab.{tab}
 use Rattle.lists.specs.Bytes.{num}
 use Rattle.lists.specs.Written.{front-more}
-use Rattle.numbers.specs.Inverse.{Member, qs, Ns, parties_cases}
+use Rattle.numbers.specs.Inverse.{Member, qs, Ns}
+use Rattle.numbers.proofs.Inverse.{parties_cases}
 use Rattle.refusals.specs.Number.{number_of}
 use Rattle.protocol.specs.Key.{Key, entries, key_of, limits, key_checks}
 

@@ -10,7 +10,8 @@ use Rattle.lists.specs.Bytes.{num}
 use Rattle.lists.specs.Check.{accepted, first}
 use Rattle.lists.specs.TestLaws.{decide, every-at, Holds, holds-each, Clean, clean}
 use Rattle.lists.specs.CatLaws.{num_past}
-use Rattle.numbers.specs.Inverse.{Member, qs, Ns, parties_least, parties_most}
+use Rattle.numbers.specs.Inverse.{Member, qs, Ns}
+use Rattle.numbers.proofs.Inverse.{parties_least, parties_most}
 use Rattle.refusals.specs.Number.{number_of, none_applies}
 use Rattle.protocol.specs.Key.{Key, entries, depth, key_of, limits, key_checks}
 use Rattle.key.specs.declared.Numbers.{Numbers}

@@ -7,7 +7,7 @@ use Rattle.std.proofs.Common.{◌∙◌, add-zero, mod-eq_of_lt, not-suc-le-zero
 use Rattle.std.proofs.Math.Bool.{true, false}
 use Rattle.std.proofs.Math.Logic.{⊎_elim}
 use mathlib.Core.List.{List, [], ◌∷◌, ◌++◌, append-nil, append_assoc}
-use Rattle.std.proofs.Math.Nat.{add-suc, sub_zero, zero_sub, suc-sub-suc}
+use Rattle.std.proofs.Math.Nat.{add-suc, sub-zero, zero-sub, suc-sub-suc}
 use native.Mathlib.Omega.{arith}
 use Rattle.std.proofs.Math.ListN.{length, length-append}
 use Rattle.std.proofs.Math.Seq.{take-nil}
@@ -98,8 +98,8 @@ module _ {A : Type 0} where
 
   -- A part of a part.
   pub drop-take : (j n : ℕ) (l : List A) → drop j (take n l) ≡ take (n - j) (drop j l)
-  drop-take zero n l = ap (λ k. take k l) (sym (sub_zero n))
-  drop-take (suc j) zero l = ap (λ k. take k (drop (suc j) l)) (sym (zero_sub (suc j)))
+  drop-take zero n l = ap (λ k. take k l) (sym (sub-zero n))
+  drop-take (suc j) zero l = ap (λ k. take k (drop (suc j) l)) (sym (zero-sub (suc j)))
   drop-take (suc j) (suc n) [] = sym (take-nil (suc n - suc j))
   drop-take (suc j) (suc n) (x ∷ l) = drop-take j n l ∙ ap (λ k. take k (drop j l)) (sym (suc-sub-suc n j))
 

@@ -10,8 +10,9 @@ use borrow.Author.Tests.{eq-eqb, ne_eqb}
 use lib.Arith.{lt_of_le-ne}
 use lib.ListN.{length, get_or, take, drop}
 use Rattle.lists.specs.Index.{pick, cat, part}
-use Rattle.numbers.specs.Mod.{sub, sub-lt}
-use Rattle.numbers.specs.Sum.{sum_ext}
+use Rattle.numbers.specs.Mod.{sub}
+use Rattle.numbers.proofs.Mod.{sub-lt}
+use Rattle.numbers.proofs.Sum.{sum_ext}
 use Rattle.streams.specs.Streams.{number, word64, block, number_lt}
 use Rattle.tree.specs.Tree.{leaf}
 use Rattle.protocol.specs.Key.{Key, depth}

@@ -12,7 +12,8 @@ use Rattle.lists.specs.Written.{built_all, built_more, built_none, puts_none, pu
 use Rattle.lists.specs.Tab.{tab, tab-at, tab-length}
 use Rattle.lists.specs.Index.{cat, count, pick}
 use Rattle.lists.specs.TestLaws.{every-at, holds-each, pick_true, pick_false}
-use Rattle.numbers.specs.Sum.{sum, sum_ext, sum_zero, sum_more, sum_grows}
+use Rattle.numbers.specs.Sum.{sum}
+use Rattle.numbers.proofs.Sum.{sum_ext, sum_zero, sum_more, sum_grows}
 use Rattle.protocol.specs.Key.{Key, entries}
 use Rattle.protocol.specs.Prover.{prover_view, opened, place, hidden_of, kept, message7, good_e, good_hidden}
 use Rattle.protocol.specs.Transcript.{Parts}

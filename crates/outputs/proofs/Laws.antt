@@ -10,9 +10,12 @@ use lib.Arith.{digits_lt}
 use lib.ListN.{length, get_or, take, drop, length-append, length-take, length-drop, get_or-append}
 use lib.Seq.{length-take-le, get_or-take, get_or-drop}
 use Rattle.lists.specs.Tab.{tab, tab-length, tab-at, tab_ext, Filling}
-use Rattle.numbers.specs.Mod.{Cong, cong_refl, cong_trans, cong_eq, cong_mod, cong_add, cong_mul, sub, sub_below}
-use Rattle.numbers.specs.Sum.{sum, sum_zero, sum_more, sum_ext}
-use Rattle.numbers.specs.Inverse.{Member, qs, q_most}
+use Rattle.numbers.specs.Mod.{Cong, sub}
+use Rattle.numbers.proofs.Mod.{cong_refl, cong_trans, cong_eq, cong_mod, cong_add, cong_mul, sub_below}
+use Rattle.numbers.specs.Sum.{sum}
+use Rattle.numbers.proofs.Sum.{sum_zero, sum_more, sum_ext}
+use Rattle.numbers.specs.Inverse.{Member, qs}
+use Rattle.numbers.proofs.Inverse.{q_most}
 use Rattle.numbers.specs.Output.{weight_of, base_of, term_of}
 use Rattle.numbers.specs.Residue.{Residue}
 use Rattle.streams.specs.Streams.{number}

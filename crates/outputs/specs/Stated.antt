@@ -7,8 +7,9 @@ use Rattle.std.proofs.Math.Arith.{digits_lt}
 use Rattle.std.proofs.lemmas.Bool.{eqb-false}
 use Rattle.lists.specs.Tab.{tab, tab_ext}
 use Rattle.lists.specs.Index.{pick}
-use Rattle.numbers.specs.Mod.{cong_eq}
-use Rattle.numbers.specs.Output.{Run, out, Alike, out_ext, out-lt, out_once, weight_of, base_of}
+use Rattle.numbers.proofs.Mod.{cong_eq}
+use Rattle.numbers.specs.Output.{Run, out, Alike, weight_of, base_of}
+use Rattle.numbers.proofs.Output.{out_ext, out-lt, out_once}
 use Rattle.streams.specs.Streams.{number, draw_is}
 use Rattle.protocol.specs.Key.{Key}
 use Rattle.protocol.specs.Shares.{View, b, d, s, αsum, o, run, coefficient}

@@ -18,10 +18,13 @@ use Rattle.lists.specs.ByteList.{Bytes, bytes-part}
 use Rattle.lists.specs.Index.{pick, count, least, same, holds}
 use Rattle.lists.specs.Check.{Verdict, accepted, refused, first}
 use Rattle.lists.specs.TestLaws.{decide, clash, not_of_true, not_of_false, pick_false, every_all, every-at, count-not, count-place, count_members, least-holds, least_before, least_some, least_all, same_of, same_eq, same_differ, differ_same, holds-each, each_holds, Clean, clean, clean-append, cleared, first_more}
-use Rattle.numbers.specs.Mod.{Cong, cong_rest, sub-lt}
-use Rattle.numbers.specs.Sum.{sum, sum_ext}
-use Rattle.numbers.specs.Inverse.{q_positive}
-use Rattle.numbers.specs.Output.{u_of, v_of, Solves, zero_solves}
+use Rattle.numbers.specs.Mod.{Cong}
+use Rattle.numbers.proofs.Mod.{cong_rest, sub-lt}
+use Rattle.numbers.specs.Sum.{sum}
+use Rattle.numbers.proofs.Sum.{sum_ext}
+use Rattle.numbers.proofs.Inverse.{q_positive}
+use Rattle.numbers.specs.Output.{u_of, v_of, Solves}
+use Rattle.numbers.proofs.Output.{zero_solves}
 use Rattle.protocol.specs.Key.{Key, A, t, kept_count, key_of, key_checks}
 use Rattle.protocol.specs.Shares.{View, is_hidden, coefficient, s, b, d, o, Ψin}
 use Rattle.protocol.specs.Prover.{opened, place, hidden_of, solves, binary}

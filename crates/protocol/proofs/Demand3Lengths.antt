@@ -11,9 +11,12 @@ use Rattle.lists.specs.Index.{pick, cat, count}
 use Rattle.lists.specs.Bytes.{nums}
 use Rattle.lists.specs.TestLaws.{pick_false}
 use Rattle.lists.specs.CatLaws.{part_length, cat-length, cat-length-count, nums-length}
-use Rattle.numbers.specs.Mod.{sub, sub-lt}
-use Rattle.numbers.specs.Sum.{sum, sum_suc, sum_grows}
-use Rattle.numbers.specs.Output.{out, out-lt}
+use Rattle.numbers.specs.Mod.{sub}
+use Rattle.numbers.proofs.Mod.{sub-lt}
+use Rattle.numbers.specs.Sum.{sum}
+use Rattle.numbers.proofs.Sum.{sum_suc, sum_grows}
+use Rattle.numbers.specs.Output.{out}
+use Rattle.numbers.proofs.Output.{out-lt}
 use Rattle.sha_core.specs.Digest.{sha256-length}
 use Rattle.streams.specs.Streams.{block, block-length}
 use Rattle.tree.specs.TreeLaws.{reopened-length}

@@ -15,7 +15,7 @@ use Rattle.lists.specs.Index.{pick, cat, count, same, part}
 use Rattle.lists.specs.ByteList.{Bytes, bytes_take}
 use Rattle.lists.specs.TestLaws.{pick_false, count-le, same_eq, same_differ, holds-each}
 use Rattle.lists.specs.Inj.{cat_inj}
-use Rattle.numbers.specs.Inverse.{parties_least, parties_most}
+use Rattle.numbers.proofs.Inverse.{parties_least, parties_most}
 use Rattle.sha_core.specs.Digest.{sha256-length}
 use Rattle.protocol.specs.Key.{Key, kept_count}
 use Rattle.protocol.specs.Shares.{H, input, View, is_hidden, is_n, Γin, Γ, hin, Ωin, Πin, Ψin}

@@ -14,7 +14,8 @@ use Rattle.lists.specs.Bytes.{num}
 use Rattle.lists.specs.Check.{Check, accepted, first}
 use Rattle.lists.specs.TestLaws.{decide, not_of_true, every_all, every-at, each_holds, same_of, clean-append, cat-clean, same_eq, holds-each, Clean, clean, clean-left, clean-right, clean-cat, cleared, first_more, pick_false}
 use Rattle.lists.specs.CatLaws.{part_length}
-use Rattle.numbers.specs.Sum.{sum, sum_suc, sum_grows}
+use Rattle.numbers.specs.Sum.{sum}
+use Rattle.numbers.proofs.Sum.{sum_suc, sum_grows}
 use Rattle.protocol.specs.Key.{Key, entries, kept_count, key_of, limits, key_checks}
 use Rattle.protocol.specs.Prover.{opened, good_e, good_hidden}
 use Rattle.protocol.specs.Transcript.{Parts, part_at, parts_of, sizes, file_end, good_header}

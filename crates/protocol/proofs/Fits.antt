@@ -14,7 +14,7 @@ use Rattle.lists.specs.Index.{pick, cat, same, holds}
 use Rattle.lists.specs.Check.{Check, ◌⇒◌, first}
 use Rattle.lists.specs.TestLaws.{count-le, same_eq, same_differ, holds-each, Clean}
 use Rattle.numbers.specs.Sum.{sum}
-use Rattle.numbers.specs.Inverse.{q_positive, q_most, parties_most}
+use Rattle.numbers.proofs.Inverse.{q_positive, q_most, parties_most}
 use Rattle.numbers.specs.Output.{u_of, v_of}
 use Rattle.protocol.specs.Key.{Key, A, t, key_of, key_checks}
 use Rattle.protocol.specs.Shares.{View, is_n, s, b, d, Γin, hin, Ωin, Πin, Ψin}

@@ -8,7 +8,8 @@ use lib.ListN.{length, get_or, length-append}
 use Rattle.lists.specs.Index.{cat, part}
 use Rattle.lists.specs.Bytes.{le4, rd4, num}
 use Rattle.lists.specs.CatLaws.{cat-length, cat-length_by, cat-part, part-part, part_right, part-first, part-last, le4-length, rd4-le4}
-use Rattle.numbers.specs.Sum.{sum, sum_zero, sum_suc, sum_ext, sum_grows}
+use Rattle.numbers.specs.Sum.{sum}
+use Rattle.numbers.proofs.Sum.{sum_zero, sum_suc, sum_ext, sum_grows}
 use Rattle.protocol.specs.Key.{Key}
 use Rattle.protocol.specs.Transcript.{Parts, part_at, parts_of, sizes, list, transcript}
 use Rattle.protocol.specs.Accepts.{GoodHeader}

@@ -12,8 +12,8 @@ use Rattle.lists.specs.Tab.{list_is_tab}
 use Rattle.lists.specs.Index.{pick, cat}
 use Rattle.lists.specs.Check.{accepted, first}
 use Rattle.lists.specs.TestLaws.{pick_true, same_of, holds-each, each_holds, Clean, clean, clean-left, clean-right}
-use Rattle.numbers.specs.Sum.{sum_ext}
-use Rattle.numbers.specs.Inverse.{q_least}
+use Rattle.numbers.proofs.Sum.{sum_ext}
+use Rattle.numbers.proofs.Inverse.{q_least}
 use Rattle.numbers.specs.Output.{join}
 use Rattle.protocol.specs.Key.{Key, key_of, key_checks}
 use Rattle.protocol.specs.Shares.{View, is_hidden, s, Γin, Ωin}

@@ -14,7 +14,7 @@ use Rattle.lists.specs.Bytes.{num}
 use Rattle.lists.specs.CatLaws.{cat-part, part_right, part-last}
 use Rattle.lists.specs.TestLaws.{Clean, every-at, holds-each, pick_true, pick_false}
 use Rattle.numbers.specs.Sum.{sum}
-use Rattle.numbers.specs.Inverse.{q_positive, q_most, q_least}
+use Rattle.numbers.proofs.Inverse.{q_positive, q_most, q_least}
 use Rattle.numbers.specs.Output.{Solves}
 use Rattle.sha_core.specs.Digest.{sha256-length}
 use Rattle.tree.specs.Tree.{reopened}

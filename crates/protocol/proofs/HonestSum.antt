@@ -8,10 +8,14 @@ use native.Mathlib.Omega.{arith}
 use borrow.Author.Tests.{ne_eqb, eq-eqb}
 use lib.Dec.{eqb}
 use Rattle.lists.specs.Index.{pick}
-use Rattle.numbers.specs.Mod.{Cong, cong_refl, cong_trans, cong_eq, cong_mul, sub, sub-lt}
-use Rattle.numbers.specs.Sum.{sum, sum_ext, sum_cong, last_share}
-use Rattle.numbers.specs.Inverse.{Member, qs, Ns, q_positive, parties_least}
-use Rattle.numbers.specs.Output.{out, out-lt, alpha_of, join, Solves, honest}
+use Rattle.numbers.specs.Mod.{Cong, sub}
+use Rattle.numbers.proofs.Mod.{cong_refl, cong_trans, cong_eq, cong_mul, sub-lt}
+use Rattle.numbers.specs.Sum.{sum}
+use Rattle.numbers.proofs.Sum.{sum_ext, sum_cong, last_share}
+use Rattle.numbers.specs.Inverse.{Member, qs, Ns}
+use Rattle.numbers.proofs.Inverse.{q_positive, parties_least}
+use Rattle.numbers.specs.Output.{out, alpha_of, join, Solves}
+use Rattle.numbers.proofs.Output.{out-lt, honest}
 use Rattle.protocol.specs.Key.{Key, A, t}
 use Rattle.protocol.specs.Shares.{sq, View, is_hidden, b, d, s, α, αsum, Γin, Γ, H, run, o, dealt}
 

@@ -8,7 +8,8 @@ use borrow.Author.Tests.{ltb-true, leb-true, not-false}
 use lib.Dec.{ltb, leb}
 use Rattle.lists.specs.Index.{count}
 use Rattle.lists.specs.TestLaws.{Clean, Holds, every-at, holds-each}
-use Rattle.numbers.specs.Inverse.{Member, each, Ns}
+use Rattle.numbers.specs.Inverse.{Member, Ns}
+use Rattle.numbers.proofs.Inverse.{each}
 use Rattle.protocol.specs.Key.{Key, t, entries, depth, limits, key_checks}
 use Rattle.protocol.specs.Accepts.{GoodKey}
 

@@ -13,10 +13,13 @@ use Rattle.lists.specs.Bytes.{nums}
 use Rattle.lists.specs.TestLaws.{pick_false}
 use Rattle.lists.specs.CatLaws.{cat-lengths, nums-length}
 use Rattle.lists.specs.Inj.{append_left, cat_inj, nums_inj}
-use Rattle.numbers.specs.Mod.{Cong, cong_sym, cong_trans, cong_eq, cong_mod, cong_mul, sub}
-use Rattle.numbers.specs.Sum.{sum, sum_ext}
-use Rattle.numbers.specs.Inverse.{q_positive, q_most}
-use Rattle.numbers.specs.Output.{Run, join, alpha_of, out, u_of, v_of, combined, out_ext, squares, u_cong, v_cong}
+use Rattle.numbers.specs.Mod.{Cong, sub}
+use Rattle.numbers.proofs.Mod.{cong_sym, cong_trans, cong_eq, cong_mod, cong_mul}
+use Rattle.numbers.specs.Sum.{sum}
+use Rattle.numbers.proofs.Sum.{sum_ext}
+use Rattle.numbers.proofs.Inverse.{q_positive, q_most}
+use Rattle.numbers.specs.Output.{Run, join, alpha_of, out, u_of, v_of, combined}
+use Rattle.numbers.proofs.Output.{out_ext, squares, u_cong, v_cong}
 use Rattle.streams.specs.Streams.{block}
 use Rattle.protocol.specs.Key.{Key, A, t}
 use Rattle.protocol.specs.Shares.{input, View, is_hidden, coefficient, s, b, d, α, αsum, Πin, run, o, Ψin}

@@ -10,8 +10,10 @@ use Rattle.lists.specs.Index.{pick}
 use Rattle.lists.specs.Bytes.{nums}
 use Rattle.lists.specs.CatLaws.{cat_ext, nums_ext}
 use Rattle.numbers.specs.Mod.{sub}
-use Rattle.numbers.specs.Sum.{sum, sum_ext}
-use Rattle.numbers.specs.Output.{out, out_ext}
+use Rattle.numbers.specs.Sum.{sum}
+use Rattle.numbers.proofs.Sum.{sum_ext}
+use Rattle.numbers.specs.Output.{out}
+use Rattle.numbers.proofs.Output.{out_ext}
 use Rattle.streams.specs.Streams.{block}
 use Rattle.protocol.specs.Key.{Key}
 use Rattle.protocol.specs.Shares.{H, input, View, is_n, is_hidden, share, coefficient, b, d, s, α, αsum, Γin, Γ, hin, Ωin, Πin, run, o, Ψin}

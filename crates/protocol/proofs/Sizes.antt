@@ -12,7 +12,8 @@ use Rattle.lists.specs.Index.{pick, cat, count}
 use Rattle.lists.specs.Bytes.{le4, nums}
 use Rattle.lists.specs.CatLaws.{cat-length_by, cat-length-count, part_length, nums-length, le4-length}
 use Rattle.lists.specs.TestLaws.{every-at, holds-each}
-use Rattle.numbers.specs.Sum.{sum, sum_zero, sum_suc, sum_bound}
+use Rattle.numbers.specs.Sum.{sum}
+use Rattle.numbers.proofs.Sum.{sum_zero, sum_suc, sum_bound}
 use Rattle.sha_core.specs.Digest.{sha256-length}
 use Rattle.tree.specs.Tree.{opening}
 use Rattle.tree.specs.TreeLaws.{opening-length}

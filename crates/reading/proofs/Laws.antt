@@ -15,7 +15,8 @@ use lib.Seq.{length-take-le, take_at}
 use Rattle.lists.specs.Tab.{tab, tab-length}
 use Rattle.lists.specs.Index.{pick, every, holds}
 use Rattle.lists.specs.TestLaws.{least-found, least-none, every-next, every_stops, every-at, pick_true, pick_false, holds-each, Holds, holds-fails}
-use Rattle.numbers.specs.Mod.{sub, sub_below}
+use Rattle.numbers.specs.Mod.{sub}
+use Rattle.numbers.proofs.Mod.{sub_below}
 use Rattle.numbers.specs.Sum.{sum}
 use Rattle.numbers.specs.Output.{u_of, v_of}
 use Rattle.numbers.specs.Residue.{Residue}

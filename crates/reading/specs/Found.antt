@@ -10,7 +10,8 @@ use Rattle.lists.specs.Tab.{tab, tab_ext}
 use Rattle.lists.specs.Index.{pick, least, holds}
 use Rattle.lists.specs.TestLaws.{every_ext, least_zero, least_suc}
 use Rattle.numbers.specs.Mod.{sub}
-use Rattle.numbers.specs.Sum.{sum, sum_ext}
+use Rattle.numbers.specs.Sum.{sum}
+use Rattle.numbers.proofs.Sum.{sum_ext}
 use Rattle.numbers.specs.Output.{u_of, v_of}
 use Rattle.protocol.specs.Key.{Key, A, t}
 use Rattle.protocol.specs.Shares.{sq, b, d, s}

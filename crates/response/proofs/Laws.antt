@@ -16,8 +16,10 @@ use Rattle.lists.specs.Index.{pick, part}
 use Rattle.lists.specs.Bytes.{le4, words, nums}
 use Rattle.lists.specs.CatLaws.{nums_ext, nums_split, part_length}
 use Rattle.lists.specs.TestLaws.{pick_false}
-use Rattle.numbers.specs.Mod.{sub, sub-lt, sub_is, sub_cong, cong_trans, cong_sym, cong_eq, cong_mod, cong_same}
-use Rattle.numbers.specs.Sum.{sum, sum_same, sum_cong, sum-add, sum-mul}
+use Rattle.numbers.specs.Mod.{sub}
+use Rattle.numbers.proofs.Mod.{sub-lt, sub_is, sub_cong, cong_trans, cong_sym, cong_eq, cong_mod, cong_same}
+use Rattle.numbers.specs.Sum.{sum}
+use Rattle.numbers.proofs.Sum.{sum_same, sum_cong, sum-add, sum-mul}
 use Rattle.tree.specs.Tree.{opening}
 use Rattle.protocol.specs.Key.{Key, depth}
 use Rattle.protocol.specs.Shares.{View, b, s, α, αsum, o, Γ, dealt}

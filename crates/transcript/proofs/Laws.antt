@@ -13,7 +13,8 @@ use Rattle.lists.specs.Index.{every}
 use Rattle.lists.specs.Bytes.{num}
 use Rattle.lists.specs.Check.{first}
 use Rattle.lists.specs.TestLaws.{each_holds, holds-fails}
-use Rattle.numbers.specs.Sum.{sum, sum_ext}
+use Rattle.numbers.specs.Sum.{sum}
+use Rattle.numbers.proofs.Sum.{sum_ext}
 use Rattle.refusals.specs.Number.{number_of}
 use Rattle.protocol.specs.Key.{Key}
 use Rattle.protocol.specs.Prover.{good_e, good_hidden}

@@ -10,7 +10,8 @@ use borrow.Author.Tests.{eqb-true}
 use Rattle.lists.specs.Index.{every}
 use Rattle.lists.specs.Bytes.{num}
 use Rattle.lists.specs.TestLaws.{every-at, Holds, holds-each}
-use Rattle.numbers.specs.Sum.{sum, sum_suc, sum_zero, sum_grows}
+use Rattle.numbers.specs.Sum.{sum}
+use Rattle.numbers.proofs.Sum.{sum_suc, sum_zero, sum_grows}
 use Rattle.protocol.specs.Key.{Key}
 use Rattle.protocol.specs.Transcript.{part_at, sizes, good_header}
 

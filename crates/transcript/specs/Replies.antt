@@ -7,7 +7,8 @@ use Rattle.lists.specs.Index.{pick, every}
 use Rattle.lists.specs.Bytes.{num}
 use Rattle.lists.specs.TestLaws.{count_zero, count_hit, count_miss}
 use Rattle.lists.specs.CatLaws.{drop-part}
-use Rattle.numbers.specs.Sum.{sum, sum_same, sum_suc, sum_more, sum_grows}
+use Rattle.numbers.specs.Sum.{sum}
+use Rattle.numbers.proofs.Sum.{sum_same, sum_suc, sum_more, sum_grows}
 use Rattle.protocol.specs.Key.{Key, depth}
 use Rattle.protocol.specs.Prover.{opened, place, hidden_of}
 use Rattle.protocol.specs.Transcript.{Parts}

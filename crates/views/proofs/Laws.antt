@@ -3,7 +3,7 @@
 use Prim.Native.Nat.{ℕ, zero, suc, ◌+◌, ◌*◌, ◌-◌, ◌%◌, ◌<◌, ◌≤◌}
 use mathlib.Core.Path.{◌≡◌, refl, sym, ◌∙◌, ap, ap₂}
 use mathlib.Core.List.{List, [], ◌++◌}
-use native.Mathlib.Nat.{sub_zero, zero_sub, suc-sub-suc}
+use native.Mathlib.Nat.{sub-zero, zero-sub, suc-sub-suc}
 use native.Mathlib.Numerals.{add-one}
 use native.Mathlib.Omega.{arith}
 use native.Mathlib.Decide.{ℕ_discrete}
@@ -17,7 +17,8 @@ use Rattle.lists.specs.Bytes.{words, nums, num}
 use Rattle.lists.specs.CatLaws.{cat-more, cat_ext, nums_ext, words-tab, part_length}
 use Rattle.lists.specs.Written.{front-more}
 use Rattle.numbers.specs.Mod.{sub}
-use Rattle.numbers.specs.Sum.{sum, sum_ext}
+use Rattle.numbers.specs.Sum.{sum}
+use Rattle.numbers.proofs.Sum.{sum_ext}
 use Rattle.sha_core.specs.Fips180.{sha256}
 use Rattle.streams.specs.Streams.{block}
 use Rattle.sha.specs.State.{Fed, fed_join}
@@ -39,8 +40,8 @@ words-part x a n h =
 
 -- a row: the entries of f, and zeros up to 32
 drop-zeros : (n i : ℕ) → drop {A = ℕ} i (replicate n 0) ≡ replicate (n - i) 0
-drop-zeros n zero = rw (sub_zero n)
-drop-zeros zero (suc i) = rw (zero_sub (suc i))
+drop-zeros n zero = rw (sub-zero n)
+drop-zeros zero (suc i) = rw (zero-sub (suc i))
 drop-zeros (suc n) (suc i) = rw (suc-sub-suc n i) (drop-zeros n i)
 
 pub row_done : (n : ℕ) (f : ℕ → ℕ) {r : List ℕ} → r ≡ tab n f ++ drop {A = ℕ} n (replicate 32 0) → r ≡ tab n f ++ replicate (32 - n) 0

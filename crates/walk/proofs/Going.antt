@@ -13,7 +13,7 @@ use Rattle.lists.specs.Index.{pick, cat, count, part}
 use Rattle.lists.specs.Check.{Check, accepted, refused, first}
 use Rattle.lists.specs.CatLaws.{cat_zero, cat-more}
 use Rattle.lists.specs.TestLaws.{decide, pick_true, pick_false, count_zero, count_hit, count_miss, count-le, count-not, first_nil, first-cat_zero, first-cat-next, first-cat_stops}
-use Rattle.numbers.specs.Sum.{sum_zero}
+use Rattle.numbers.proofs.Sum.{sum_zero}
 use Rattle.protocol.specs.Key.{Key, kept_count}
 use Rattle.protocol.specs.Shares.{input}
 use Rattle.protocol.specs.Prover.{opened, rank, place, kept, hΓin, hπin, hψin, good_e}

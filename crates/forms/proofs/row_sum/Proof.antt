@@ -3,7 +3,8 @@ use Prim.Native.Nat.{◌+◌, ◌*◌, ◌%◌, ◌≤◌, ◌-◌}
 use mathlib.Core.Path.{◌≡◌}
 use native.Mathlib.Omega.{arith}
 use lib.ListN.{length, get_or}
-use Rattle.numbers.specs.Sum.{sum, loop_first}
+use Rattle.numbers.specs.Sum.{sum}
+use Rattle.numbers.proofs.Sum.{loop_first}
 use Rattle.protocol.specs.Key.{key_of}
 use Rattle.forms.proofs.Laws.{row_next}
 use borrow.Author.Rules.{rules}

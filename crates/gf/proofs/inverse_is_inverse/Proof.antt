@@ -1,5 +1,5 @@
 -- `gf::inverse_is_inverse` states the laws of `specs/Inverse.antt`. Assumes nothing.
-use Rattle.gf.specs.Inverse.{inverse_of_lem, inverse_byte, inverse_zero}
+use Rattle.gf.proofs.Inverse.{inverse_of_lem, inverse_byte, inverse_zero}
 use Rattle.gf.proofs.inverse_is_inverse.Statement.{statement}
 use Rattle.gf.proofs.inverse_is_inverse.Tie as tie
 

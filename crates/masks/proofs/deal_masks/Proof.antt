@@ -3,7 +3,7 @@ use mathlib.Core.Path.{◌∙◌, ap}
 use Prim.Native.Nat.{◌*◌}
 use native.Mathlib.Omega.{arith}
 use lib.ListN.{length}
-use Rattle.numbers.specs.Inverse.{q_positive}
+use Rattle.numbers.proofs.Inverse.{q_positive}
 use Rattle.tree.specs.TreeLaws.{leaves_length}
 use Rattle.masks.proofs.Laws.{all_masked, dealt_masks_reduced}
 use borrow.Author.Rules.{rules}

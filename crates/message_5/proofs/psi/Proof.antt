@@ -1,6 +1,6 @@
 -- `psi` deals the execution and hashes its outputs. Assumes nothing.
 use native.Mathlib.Omega.{arith}
-use Rattle.numbers.specs.Inverse.{q_positive}
+use Rattle.numbers.proofs.Inverse.{q_positive}
 use Rattle.response.proofs.Laws.{held-outputs}
 use Rattle.message_5.proofs.Laws.{psi_of}
 use borrow.Author.Rules.{rules}

@@ -1,6 +1,6 @@
 -- `inverse_of` has the two cases of its definition. Assumes nothing.
-use Rattle.numbers.specs.Inverse.{parties_least, q_most}
-use Rattle.numbers.specs.Residue.{inverse_plus, inverse-minus}
+use Rattle.numbers.proofs.Inverse.{parties_least, q_most}
+use Rattle.numbers.proofs.Residue.{inverse_plus, inverse-minus}
 use native.Mathlib.Nat.{div-le_self}
 use native.Mathlib.Omega.{arith}
 use Rattle.numbers.proofs.inverse_of.Statement.{statement}

@@ -3,7 +3,8 @@ use mathlib.Core.Path.{◌≡◌}
 use mathlib.Core.Bool.{Bool}
 use mathlib.Core.List.{[], ◌∷◌}
 use Rattle.lists.specs.Index.{member}
-use Rattle.numbers.specs.Inverse.{qs, member-found, member-passed, member-last}
+use Rattle.numbers.specs.Inverse.{qs}
+use Rattle.numbers.proofs.Inverse.{member-found, member-passed, member-last}
 use Rattle.numbers.proofs.is_modulus.Statement.{statement}
 use Rattle.numbers.proofs.is_modulus.Tie as tie
 

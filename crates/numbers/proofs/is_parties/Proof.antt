@@ -3,7 +3,8 @@ use mathlib.Core.Path.{◌≡◌}
 use mathlib.Core.Bool.{Bool}
 use mathlib.Core.List.{[], ◌∷◌}
 use Rattle.lists.specs.Index.{member}
-use Rattle.numbers.specs.Inverse.{Ns, member-found, member-passed, member-last}
+use Rattle.numbers.specs.Inverse.{Ns}
+use Rattle.numbers.proofs.Inverse.{member-found, member-passed, member-last}
 use Rattle.numbers.proofs.is_parties.Statement.{statement}
 use Rattle.numbers.proofs.is_parties.Tie as tie
 

@@ -1,5 +1,5 @@
 -- `mul_add` reduces the sum, which fits 64 bits. Assumes nothing.
-use Rattle.numbers.specs.Residue.{product-room}
+use Rattle.numbers.proofs.Residue.{product-room}
 use borrow.Author.Rules.{rules}
 use native.Mathlib.Omega.{arith}
 use Rattle.numbers.proofs.mul_add.Statement.{statement}

@@ -1,5 +1,5 @@
 -- `reduced` is the remainder by q: each arm has q for its constant, and the last arm is left for the third q. Assumes nothing.
-use Rattle.numbers.specs.Residue.{residue_at, q_third}
+use Rattle.numbers.proofs.Residue.{residue_at, q_third}
 use borrow.Author.Rules.{rules}
 use native.Mathlib.Omega.{arith}
 use Rattle.numbers.proofs.reduced.Statement.{statement}

@@ -1,5 +1,5 @@
 -- `sub_mod` adds q where b is more than a. Assumes nothing.
-use Rattle.numbers.specs.Residue.{residue_sub, residue_sub_wrapped}
+use Rattle.numbers.proofs.Residue.{residue_sub, residue_sub_wrapped}
 use borrow.Author.Rules.{rules}
 use native.Mathlib.Omega.{arith}
 use Rattle.numbers.proofs.sub_mod.Statement.{statement}

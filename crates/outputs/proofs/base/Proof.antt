@@ -3,11 +3,13 @@ use borrow.Author.Rules.{rules}
 use native.Mathlib.Omega.{arith}
 use Prim.Native.Nat.{◌*◌, ◌-◌, ◌%◌, ◌≤◌}
 use mathlib.Core.Path.{◌≡◌}
-use Rattle.numbers.specs.Mod.{cong_refl, cong_mul}
+use Rattle.numbers.proofs.Mod.{cong_refl, cong_mul}
 use Rattle.numbers.specs.Sum.{sum}
-use Rattle.numbers.specs.Inverse.{q_positive, inverse_of, parties_most}
+use Rattle.numbers.specs.Inverse.{inverse_of}
+use Rattle.numbers.proofs.Inverse.{q_positive, parties_most}
 use Rattle.numbers.specs.Output.{base_of}
-use Rattle.numbers.specs.Residue.{Residue, residue_first, residue_next}
+use Rattle.numbers.specs.Residue.{Residue}
+use Rattle.numbers.proofs.Residue.{residue_first, residue_next}
 use Rattle.outputs.specs.Steps.{at, target}
 use Rattle.outputs.proofs.Laws.{times}
 use native.Mathlib.Nat.{mul-le-mul}

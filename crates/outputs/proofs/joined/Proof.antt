@@ -1,7 +1,7 @@
 -- `joined` reduces the high half first, so that the whole fits 64 bits. Assumes nothing.
 use borrow.Author.Rules.{rules}
 use native.Mathlib.Omega.{arith}
-use Rattle.numbers.specs.Inverse.{q_most}
+use Rattle.numbers.proofs.Inverse.{q_most}
 use Rattle.outputs.proofs.Laws.{split_join}
 use Rattle.outputs.proofs.joined.Statement.{statement}
 use Rattle.outputs.proofs.joined.Tie as tie

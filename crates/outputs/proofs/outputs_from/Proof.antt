@@ -4,7 +4,7 @@ use native.Mathlib.Omega.{arith}
 use mathlib.Core.Path.{sym}
 use lib.ListN.{length-take, length-drop}
 use lib.Seq.{length-take-le}
-use Rattle.numbers.specs.Inverse.{q_positive}
+use Rattle.numbers.proofs.Inverse.{q_positive}
 use Rattle.outputs.proofs.Laws.{ready, answers}
 use Rattle.outputs.proofs.outputs_from.Statement.{statement}
 use Rattle.outputs.proofs.outputs_from.Tie as tie

@@ -1,7 +1,7 @@
 -- `product`: the product of two 32-bit numbers fits 64 bits. Assumes nothing.
 use borrow.Author.Rules.{rules}
 use native.Mathlib.Omega.{arith}
-use Rattle.numbers.specs.Residue.{product-room}
+use Rattle.numbers.proofs.Residue.{product-room}
 use Rattle.outputs.proofs.product.Statement.{statement}
 use Rattle.outputs.proofs.product.Tie as tie
 

@@ -2,7 +2,7 @@
 use borrow.Author.Rules.{rules}
 use native.Mathlib.Omega.{arith}
 use Prim.Native.Nat.{◌+◌, ◌*◌, ◌≤◌}
-use Rattle.numbers.specs.Inverse.{q_most}
+use Rattle.numbers.proofs.Inverse.{q_most}
 use Rattle.outputs.proofs.Laws.{room, room-sum, term_done}
 use Rattle.outputs.proofs.term.Statement.{statement}
 use Rattle.outputs.proofs.term.Tie as tie

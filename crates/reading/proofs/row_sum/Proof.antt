@@ -3,10 +3,11 @@ use Prim.Native.Nat.{◌+◌, ◌*◌, ◌-◌, ◌%◌, ◌≤◌}
 use native.Mathlib.Omega.{arith}
 use mathlib.Core.Path.{◌≡◌}
 use lib.ListN.{get_or}
-use Rattle.numbers.specs.Mod.{cong_refl}
+use Rattle.numbers.proofs.Mod.{cong_refl}
 use Rattle.numbers.specs.Sum.{sum}
-use Rattle.numbers.specs.Inverse.{q_positive}
-use Rattle.numbers.specs.Residue.{Residue, residue_first, residue_next}
+use Rattle.numbers.proofs.Inverse.{q_positive}
+use Rattle.numbers.specs.Residue.{Residue}
+use Rattle.numbers.proofs.Residue.{residue_first, residue_next}
 use borrow.Author.Rules.{rules}
 use Rattle.reading.proofs.row_sum.Statement.{statement}
 use Rattle.reading.proofs.row_sum.Tie as tie

@@ -1,7 +1,7 @@
 -- `v_at` reduces s before it is taken away. Assumes nothing.
 use Prim.Native.Nat.{◌*◌}
 use native.Mathlib.Omega.{arith}
-use Rattle.numbers.specs.Residue.{product-room}
+use Rattle.numbers.proofs.Residue.{product-room}
 use Rattle.reading.proofs.Laws.{sub_reduced}
 use borrow.Author.Rules.{rules}
 use Rattle.reading.proofs.v_at.Statement.{statement}

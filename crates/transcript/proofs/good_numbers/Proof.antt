@@ -9,7 +9,8 @@ use lib.ListN.{length, get_or}
 use borrow.Author.Tests.{not-true, not-false}
 use Rattle.lists.specs.Index.{every}
 use Rattle.lists.specs.TestLaws.{every_zero, every-next, every_stops}
-use Rattle.numbers.specs.Sum.{sum, sum_zero}
+use Rattle.numbers.specs.Sum.{sum}
+use Rattle.numbers.proofs.Sum.{sum_zero}
 use Rattle.protocol.specs.Key.{Key}
 use Rattle.protocol.specs.Prover.{opened, place}
 use Rattle.protocol.specs.Transcript.{Parts}

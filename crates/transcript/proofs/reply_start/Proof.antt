@@ -5,7 +5,8 @@ use mathlib.Core.List.{[]}
 use native.Mathlib.Omega.{arith}
 use lib.ListN.{get_or}
 use borrow.Author.Tests.{not-true, not-false}
-use Rattle.numbers.specs.Sum.{sum, sum_zero}
+use Rattle.numbers.specs.Sum.{sum}
+use Rattle.numbers.proofs.Sum.{sum_zero}
 use Rattle.protocol.specs.Prover.{place}
 use Rattle.protocol.specs.Judge.{reply_size}
 use Rattle.key.specs.Numbers.{key_with, of_with}

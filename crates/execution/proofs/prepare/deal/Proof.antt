@@ -3,7 +3,7 @@ use mathlib.Core.Path.{◌∙◌, ap}
 use Prim.Native.Nat.{◌*◌}
 use native.Mathlib.Omega.{arith}
 use lib.ListN.{length}
-use Rattle.numbers.specs.Inverse.{q_positive}
+use Rattle.numbers.proofs.Inverse.{q_positive}
 use Rattle.tree.specs.TreeLaws.{leaves_length}
 use Rattle.execution.proofs.Dealt.{all_dealt, dealt_reduced}
 use borrow.Author.Rules.{rules}

@@ -4,7 +4,7 @@ use Prim.Native.Nat.{◌+◌, ◌*◌}
 use native.Mathlib.Omega.{arith}
 use lib.ListN.{length, take}
 use lib.Seq.{length-take-le}
-use Rattle.numbers.specs.Inverse.{q_positive}
+use Rattle.numbers.proofs.Inverse.{q_positive}
 use Rattle.tree.specs.TreeLaws.{all_reopened-length}
 use Rattle.execution.specs.Prepared.{last_count}
 use Rattle.execution.proofs.Kept.{rest_is, rest_long, Reopened, all_kept, kept_reduced}

@@ -2,7 +2,7 @@
 use mathlib.Core.Path.{◌∙◌, ap}
 use Prim.Native.Nat.{◌+◌, ◌-◌, ◌%◌}
 use native.Mathlib.Omega.{arith}
-use Rattle.numbers.specs.Inverse.{q_positive}
+use Rattle.numbers.proofs.Inverse.{q_positive}
 use Rattle.execution.specs.Lists.{last_d, column_of}
 use Rattle.execution.proofs.Laws.{column_in, last_d_is}
 use borrow.Author.Rules.{rules}

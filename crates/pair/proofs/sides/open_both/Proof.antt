@@ -5,7 +5,7 @@ use lib.ListN.{length}
 use Rattle.lists.specs.Tab.{tab-length}
 use Rattle.protocol.specs.Transcript.{parts_of}
 use Rattle.key.specs.Numbers.{key_with}
-use Rattle.joined.specs.Joined.{joined_by}
+use Rattle.joined.proofs.Joined.{joined_by}
 use Rattle.side.proofs.Laws.{limits_of}
 use borrow.Author.Rules.{rules}
 use Rattle.pair.proofs.sides.open_both.Statement.{statement}

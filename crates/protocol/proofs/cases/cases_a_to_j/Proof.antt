@@ -10,7 +10,7 @@ use Rattle.numbers.specs.Sum.{sum}
 use Rattle.numbers.specs.Inverse.{inverse_of}
 use Rattle.numbers.specs.Output.{out}
 use Rattle.streams.specs.Streams.{word64, draw}
-use Rattle.case_seeds.specs.Seeds.{first_b, first_d, first_s, second_b, one_γ}
+use Rattle.case_seeds.proofs.Seeds.{first_b, first_d, first_s, second_b, one_γ}
 use Rattle.tree.specs.Tree.{opening}
 use Rattle.protocol.specs.Key.{depth, key_of, limits, key_checks}
 use Rattle.protocol.specs.Shares.{share, coefficient, b, d, s, α, αsum, run, o}

@@ -2,7 +2,7 @@
 use mathlib.Core.Path.{◌∙◌, ap}
 use Prim.Native.Nat.{◌+◌, ◌*◌, ◌%◌}
 use native.Mathlib.Omega.{arith}
-use Rattle.numbers.specs.Inverse.{q_positive}
+use Rattle.numbers.proofs.Inverse.{q_positive}
 use Rattle.execution.specs.Lists.{column_of}
 use Rattle.execution.proofs.Laws.{column_in}
 use Rattle.response.specs.Held.{alpha_sum}

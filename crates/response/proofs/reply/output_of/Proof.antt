@@ -2,7 +2,7 @@
 use mathlib.Core.Path.{sym}
 use lib.ListN.{replicate}
 use lib.Seq.{length-take-le}
-use Rattle.numbers.specs.Inverse.{q_positive}
+use Rattle.numbers.proofs.Inverse.{q_positive}
 use Rattle.protocol.specs.Shares.{o}
 use Rattle.response.proofs.Laws.{front_at, held-outputs}
 use borrow.Author.Rules.{rules}

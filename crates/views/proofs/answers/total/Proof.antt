@@ -3,7 +3,7 @@ use mathlib.Core.Path.{◌≡◌, ap, ◌∙◌}
 use Prim.Native.Nat.{ℕ, ◌+◌, ◌*◌}
 use native.Mathlib.Omega.{arith}
 use lib.ListN.{get_or}
-use Rattle.numbers.specs.Sum.{sum_ext}
+use Rattle.numbers.proofs.Sum.{sum_ext}
 use Rattle.views.proofs.answers.total.Statement.{statement}
 use Rattle.views.proofs.answers.total.Tie as tie
 
