@@ -2,53 +2,26 @@
 // shift. The first run that cannot be opened ends it; a missing `key` is an empty one.
 #![tactic(auto)]
 
-ghost use Rattle.std.specs.Prelude.{◌≤◌, ◌≡◌, length};
-ghost use Rattle.io.specs.Counts.{IsPrefixLen};
+ghost use Rattle.std.specs.Prelude.{◌≤◌, ◌≡◌, length, take};
 ghost use Rattle.report.specs.Judged.{Judged};
 
-use libc::STDOUT_FILENO;
-
-// A file: whether it could be opened, and how many of its bytes were read; none of a directory.
-#[derive(Clone, Copy)]
-struct Loaded {
-    open: bool,
-    size: usize,
-}
-
-// The file's bytes at the front of buf, as many as fit.
-fn load(path: &[u8], buf: &mut [u8]) -> Loaded
-    ensures { IsPrefixLen result.size buf.new }
-{
-    let fd = os::open_read(path);
-    if fd < 0 {
-        return Loaded {
-            open: false,
-            size: 0,
-        };
-    }
-    let n = io::read_full(fd, buf);
-    libc::close(fd);
-    Loaded {
-        open: true,
-        size: n,
-    }
-}
+use loading::load;
+use std::rt::Files;
 
 // The judge's numbers for the runs before the first that cannot be opened; returns how many they are.
-fn judge_runs(key: &[u8], run: &mut [u8], verdicts: &mut [u32]) -> usize
+fn judge_runs<R: Files>(files: &R, key: &[u8], run: &mut [u8], verdicts: &mut [u32]) -> usize
     requires { length verdicts.old ≡ 99 }
     ensures upper_bound { result ≤ 99 }
-    ensures prefix_len { IsPrefixLen result verdicts.new }
+    ensures prefix_len { (result ≤ length verdicts.new) × (result ≡ length (take result verdicts.new)) }
     ensures judged { Judged key.now result verdicts.new }
 {
     let mut count = 0;
     while count < 99 {
         let name = sheet::name(count + 1);
-        let file = load(&name, run);
-        if !file.open {
+        let path = str::from_utf8(&name).unwrap();
+        let Ok(size) = load(files, path, run) else {
             return count;
-        }
-        let size = file.size;
+        };
         let number = badge::badge_judge(key, &run[..size]);
         verdicts[count] = number;
         count += 1;
@@ -56,14 +29,13 @@ fn judge_runs(key: &[u8], run: &mut [u8], verdicts: &mut [u32]) -> usize
     count
 }
 
-fn main() {
-    let mut key = io::large_buffer();
-    let mut run = io::large_buffer();
-    let mut text = io::buffer();
+fn main(rt: HostRuntime) {
+    let mut key = [0u8; 65536];
+    let mut run = [0u8; 65536];
+    let mut text = [0u8; 4096];
     let mut verdicts = [0u32; 99];
-    let file = load(b"key", &mut key);
-    let size = file.size;
-    let count = judge_runs(&key[..size], &mut run, &mut verdicts);
+    let size = load(&rt, "key", &mut key).unwrap_or(0);
+    let count = judge_runs(&rt, &key[..size], &mut run, &mut verdicts);
     let n = sheet::write(&verdicts[..count], &mut text);
-    io::write_all(STDOUT_FILENO, &text[..n]);
+    let _ = rt.write_all(&text[..n]);
 }

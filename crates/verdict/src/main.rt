@@ -2,30 +2,15 @@
 // file is an empty one.
 #![tactic(auto)]
 
-ghost use Rattle.io.specs.Counts.{IsPrefixLen};
+use loading::load;
 
-use libc::STDOUT_FILENO;
-
-// The file's bytes at the front of buf, as many as fit.
-fn load(path: &[u8], buf: &mut [u8]) -> usize
-    ensures { IsPrefixLen result buf.new }
-{
-    let fd = os::open_read(path);
-    if fd < 0 {
-        return 0;
-    }
-    let n = io::read_full(fd, buf);
-    libc::close(fd);
-    n
-}
-
-fn main() {
-    let mut key = io::large_buffer();
-    let mut run = io::large_buffer();
+fn main(rt: HostRuntime) {
+    let mut key = [0u8; 65536];
+    let mut run = [0u8; 65536];
     let mut text = [0u8; 19];
-    let k = load(b"key", &mut key);
-    let r = load(b"run", &mut run);
+    let k = load(&rt, "key", &mut key).unwrap_or(0);
+    let r = load(&rt, "run", &mut run).unwrap_or(0);
     let number = badge::badge_judge(&key[..k], &run[..r]);
     let n = line::verdict_line(number, &mut text);
-    io::write_all(STDOUT_FILENO, &text[..n]);
+    let _ = rt.write_all(&text[..n]);
 }

@@ -1,0 +1,33 @@
+// The first bytes of a file, in front of a list.
+#![tactic(auto)]
+
+ghost use Rattle.std.specs.Prelude.{◌≡◌, ◌≤◌, length, take};
+ghost use Rattle.std.specs.Io.{ReadsAtMost};
+ghost use Rattle.std.specs.Io.KnownBytes.{Consumes};
+
+use std::io::Read;
+use std::rt::Files;
+use std::{fs, io};
+
+// The next bytes of an input in front of a list, until the list is full, the input ends or a read fails; returns how many they are.
+fn fill<R: Read>(input: &mut R, out: &mut [u8]) -> usize
+    ensures in_bounds { (result ≤ length out.new) × (result ≡ length (take result out.new)) }
+    ensures bytes { Consumes (R.remaining input.old) (R.remaining input.new) (take result out.new) }
+{
+    let mut done = 0;
+    while done < out.len() {
+        match input.read(&mut out[done..]) {
+            Ok(0) | Err(_) => break,
+            Ok(n) => done += n,
+        }
+    }
+    done
+}
+
+// The file's bytes in front of a list, as many as fit: how many they are, or why the file cannot be opened.
+pub fn load<R: Files>(files: &R, path: &str, out: &mut [u8]) -> io::Result<usize>
+    ensures { ReadsAtMost result out.new }
+{
+    let mut file = fs::open(files, path)?;
+    Ok(fill(&mut file, out))
+}
