@@ -7,7 +7,7 @@ use native.Mathlib.Omega.{arith}
 use lib.ListN.{get_or, take, drop}
 use Rattle.lists.specs.Index.{cat}
 use Rattle.lists.specs.CatLaws.{cat-more}
-use Rattle.sha.specs.State.{Stands, Fed, fed_join, fed_nil}
+use Rattle.sha.specs.State.{Fed, fed_join, fed_nil}
 use Rattle.sha.specs.declared.Sha.{Sha}
 use Rattle.sha_core.specs.Fips180.{sha256}
 use Rattle.protocol.specs.Shares.{hin, b, s, input}

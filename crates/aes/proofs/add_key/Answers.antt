@@ -1,5 +1,4 @@
 use mathlib.Core.Path.{refl}
-use Prim.Native.Nat.{◌-◌}
 use Rattle.lists.specs.Tab.{start, more, done}
 use Rattle.aes.specs.Fips197.{add_key}
 use Rattle.aes.proofs.add_key.Goals as goal

@@ -12,5 +12,5 @@ pub returns-clause-by_index : goal.returns-clause-by_index
 returns-clause-by_index c =
     let four : (c.args.n + 4) % 4 ≡ 0 = omega (arith, c.requires.n_bound.1) in
     λ key so. c.put_word.ensures.by_index key so
-          (temp_turned c.args.w.now (c.args.n + 4) c.sub-a.result c.sub-b.result c.sub-c.result c.sub-d.result c.x_power-x.result
-          four c.sub-a.ensures c.sub-b.ensures c.sub-c.ensures c.sub-d.ensures c.x_power-x.ensures)
+    (temp_turned c.args.w.now (c.args.n + 4) c.sub-a.result c.sub-b.result c.sub-c.result c.sub-d.result c.x_power-x.result
+    four c.sub-a.ensures c.sub-b.ensures c.sub-c.ensures c.sub-d.ensures c.x_power-x.ensures)

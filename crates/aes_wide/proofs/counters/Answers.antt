@@ -1,4 +1,4 @@
-use Prim.Native.Nat.{◌+◌, ◌-◌}
+use Prim.Native.Nat.{◌+◌}
 use mathlib.Core.Path.{◌∙◌}
 use Rattle.aes_wide.proofs.Laws.{rows_start, row_more, row_next, rows_end, counter_size, counter_at}
 use Rattle.aes_wide.proofs.counters.Goals as goal

@@ -1,20 +1,18 @@
-use mathlib.Core.Bool.{true, true≢false}
+use mathlib.Core.Bool.{true≢false}
 use mathlib.Core.Path.{◌≡◌, refl, sym, ◌∙◌}
-use Prim.Native.Nat.{◌-◌}
 use native.Mathlib.Omega.{arith}
 use Rattle.aes_wide.proofs.Laws.{no_rounds, one-round, all_rounds, all_blocks, flat_key, flat_round}
 use borrow.Author.Rules.{rules}
 use Rattle.aes_wide.proofs.encrypt.Goals as goal
 
 pub loop-n-init : goal.loop-n-init
-loop-n-init c =
-    (
-      search rules,
-      refl,
-      no_rounds _ _ c.first_key.ensures.long,
-      (λ yes first. flat_key c.args.w.now c.args.s.now _ c.first_key.ensures (c.requires.flat yes)),
-      (λ yes second. let z : ⊥ = omega arith in absurd z),
-    )
+loop-n-init c = (
+  search rules,
+  refl,
+  no_rounds _ _ c.first_key.ensures.long,
+  (λ yes first. flat_key c.args.w.now c.args.s.now _ c.first_key.ensures (c.requires.flat yes)),
+  (λ yes second. let z : ⊥ = omega arith in absurd z),
+)
 
 pub sub_shift_at-requires-clause-flat : goal.sub_shift_at-requires-clause-flat
 sub_shift_at-requires-clause-flat c =

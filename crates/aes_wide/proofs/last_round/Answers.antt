@@ -1,4 +1,3 @@
-use Prim.Native.Nat.{◌-◌}
 use Rattle.aes.specs.Fips197.{sub_bytes, shift_rows}
 use Rattle.aes_wide.specs.Wide.{lane}
 use Rattle.aes_wide.proofs.Laws.{rows_start, row_more, row_next, rows_end, key_size, last_value}

@@ -1,4 +1,3 @@
-use Prim.Native.Nat.{◌-◌}
 use Rattle.aes.specs.Fips197.{mix_columns}
 use Rattle.aes_wide.specs.Wide.{lane}
 use Rattle.aes_wide.proofs.Laws.{columns_start, column-more, column-next, columns_end, key_size}

@@ -8,13 +8,13 @@ pub slice_bounds-fill-end-in-Collision : goal.slice_bounds-fill-end-in-Collision
 slice_bounds-fill-end-in-Collision c = sym (length-take-le 8 c.args.answer.now c.requires.in_bounds)
 
 pub word-requires : goal.word-requires
-word-requires c = (narrow_of _ c.r-1.given.1 c.requires.narrow).1.0
+word-requires c = (narrow_of _ c.in-Collision.is c.requires.narrow).1.0
 
 pub word-requires-in-Collision : goal.word-requires-in-Collision
-word-requires-in-Collision c = (narrow_of _ c.r-1.given.1 c.requires.narrow).1.1.0
+word-requires-in-Collision c = (narrow_of _ c.in-Collision.is c.requires.narrow).1.1.0
 
 pub word-requires-in-Collision-2 : goal.word-requires-in-Collision-2
-word-requires-in-Collision-2 c = (narrow_of _ c.r-1.given.1 c.requires.narrow).1.1.1.0
+word-requires-in-Collision-2 c = (narrow_of _ c.in-Collision.is c.requires.narrow).1.1.1.0
 
 pub fill-requires : goal.fill-requires
 fill-requires c = length-take-le 8 c.args.answer.now c.requires.in_bounds
@@ -29,10 +29,10 @@ pub slice_bounds-fill-end-in-Square-2 : goal.slice_bounds-fill-end-in-Square-2
 slice_bounds-fill-end-in-Square-2 c = sym (length-take-le 8 c.args.answer.now c.requires.in_bounds)
 
 pub word-requires-in-Square : goal.word-requires-in-Square
-word-requires-in-Square c = (narrow_of _ c.r-in-Square-1.given.1 c.requires.narrow).1.0
+word-requires-in-Square c = (narrow_of _ c.in-Square.is c.requires.narrow).1.0
 
 pub word-requires-in-Square-2 : goal.word-requires-in-Square-2
-word-requires-in-Square-2 c = (narrow_of _ c.r-in-Square-1.given.1 c.requires.narrow).1.1.1.1.0
+word-requires-in-Square-2 c = (narrow_of _ c.in-Square.is c.requires.narrow).1.1.1.1.0
 
 pub fill-requires-in-Square : goal.fill-requires-in-Square
 fill-requires-in-Square c = length-take-le 8 c.args.answer.now c.requires.in_bounds
@@ -41,19 +41,19 @@ pub slice_bounds-fill-end-in-Errors-2 : goal.slice_bounds-fill-end-in-Errors-2
 slice_bounds-fill-end-in-Errors-2 c = sym (length-take-le 8 c.args.answer.now c.requires.in_bounds)
 
 pub word-requires-in-Errors : goal.word-requires-in-Errors
-word-requires-in-Errors c = (narrow_of _ c.r-in-Errors-1.given.1 c.requires.narrow).1.0
+word-requires-in-Errors c = (narrow_of _ c.in-Errors.is c.requires.narrow).1.0
 
 pub fill-requires-in-Errors : goal.fill-requires-in-Errors
 fill-requires-in-Errors c = length-take-le 8 c.args.answer.now c.requires.in_bounds
 
 pub returns-in-Collision : goal.returns-in-Collision
-returns-in-Collision c = row_collision c.args.answer.now _ _ _ _ c.r-1.given.1 c.word.ensures c.word-in-Collision.ensures c.word-in-Collision-2.ensures c.fill.ensures
+returns-in-Collision c = row_collision c.args.answer.now _ _ _ _ c.in-Collision.is c.word.ensures c.word-in-Collision.ensures c.word-in-Collision-2.ensures c.fill.ensures
 
 pub returns-in-Secret : goal.returns-in-Secret
-returns-in-Secret c = row_secret c.args.answer.now c.enum_told-in-Secret-1.given.1 c.fill-in-Secret.ensures
+returns-in-Secret c = row_secret c.args.answer.now c.in-Secret.is c.fill-in-Secret.ensures
 
 pub returns-in-Square : goal.returns-in-Square
-returns-in-Square c = row_square c.args.answer.now _ _ _ _ c.r-in-Square-1.given.1 c.word-in-Square.ensures c.word-in-Square-2.ensures c.fill-in-Square.ensures
+returns-in-Square c = row_square c.args.answer.now _ _ _ _ c.in-Square.is c.word-in-Square.ensures c.word-in-Square-2.ensures c.fill-in-Square.ensures
 
 pub returns-in-Errors : goal.returns-in-Errors
-returns-in-Errors c = row_errors c.args.answer.now _ c.r-in-Errors-1.given.1 c.word-in-Errors.ensures c.fill-in-Errors.ensures
+returns-in-Errors c = row_errors c.args.answer.now _ c.in-Errors.is c.word-in-Errors.ensures c.fill-in-Errors.ensures

@@ -10,4 +10,5 @@ overflow_add-result c = omega (arith, c.put_decimal.ensures.value, long 2 c.args
 pub returns : goal.returns
 returns c =
     let d = c.put_decimal.ensures in
-    number-written c.args.n (omega arith) c.put_text-a.ensures (puts_tail _ _ _ _ _ d.value d.out_after)
+    let both = number-written c.args.n (omega arith) c.put_text-a.ensures (puts_tail _ _ _ _ _ d.value d.out_after) in
+    record { puts = both.0; upper_bound = both.1 }

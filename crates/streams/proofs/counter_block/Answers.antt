@@ -1,6 +1,5 @@
 use borrow.Author.Rules.{rules}
 use Rattle.streams.proofs.Laws.{zeros}
-use Prim.Native.Nat.{◌-◌}
 use Rattle.lists.specs.Tab.{more, done}
 use Rattle.aes_wide.specs.Wide.{counter}
 use Rattle.streams.proofs.counter_block.Goals as goal

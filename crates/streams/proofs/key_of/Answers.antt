@@ -1,5 +1,4 @@
 use Rattle.streams.proofs.Laws.{whole}
-use Prim.Native.Nat.{◌-◌}
 use mathlib.Core.Path.{refl, ◌∙◌}
 use Rattle.lists.specs.Tab.{start, more, done}
 use Rattle.streams.proofs.key_of.Goals as goal

@@ -1,4 +1,4 @@
-use Prim.Native.Nat.{◌-◌, ◌%◌}
+use Prim.Native.Nat.{◌%◌}
 use mathlib.Core.Path.{refl, ap, ◌∙◌}
 use Rattle.lists.specs.Tab.{start, more, done}
 use Rattle.streams.proofs.numbers_of.Goals as goal

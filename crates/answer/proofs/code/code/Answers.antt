@@ -3,12 +3,12 @@ use Rattle.answer.proofs.Codes.{length-small, code_length, code_refused}
 use Rattle.answer.proofs.code.code.Goals as goal
 
 pub length_code-requires : goal.length_code-requires
-length_code-requires c = length-small _ _ c.answer-1.given.1 c.requires
+length_code-requires c = length-small _ _ c.in-Length.is c.requires
 
 pub returns-in-Length : goal.returns-in-Length
 returns-in-Length c =
-    let e = c.answer-1.given.1 in
+    let e = c.in-Length.is in
     code_length _ _ _ e (length-small _ _ e c.requires) c.length_code.ensures
 
 pub returns-in-Refused : goal.returns-in-Refused
-returns-in-Refused c = code_refused _ _ _ c.answer-in-Refused-1.given.1 c.refusal_code.ensures.0 c.refusal_code.ensures.1
+returns-in-Refused c = code_refused _ _ _ c.in-Refused.is c.refusal_code.ensures.0 c.refusal_code.ensures.1

@@ -9,9 +9,9 @@ returns-then-others-ne0 c = inputs7_5 _ _ _ _ _ _ _ c.inputs_5-others.ensures c.
 pub returns-then-not-good_hidden : goal.returns-then-not-good_hidden
 returns-then-not-good_hidden c =
     let of = c.requires.of in
-    inputs7_10 _ _ _ _ _ _ _ c.inputs_5-others.ensures c.if-others-ne0.false (sym (c.good_hidden_lem.ensures _ of) ∙ c.if-not-good_hidden.true)
+    inputs7_10 _ _ _ _ _ _ _ c.inputs_5-others.ensures c.if-others-ne0.false (sym (c.good_hidden.ensures _ of) ∙ c.if-not-good_hidden.true)
 
 pub returns : goal.returns
 returns c =
     let of = c.requires.of in
-    inputs7_0 _ _ _ _ _ _ _ c.inputs_5-others.ensures c.if-others-ne0.false (sym (c.good_hidden_lem.ensures _ of) ∙ c.if-not-good_hidden.false)
+    inputs7_0 _ _ _ _ _ _ _ c.inputs_5-others.ensures c.if-others-ne0.false (sym (c.good_hidden.ensures _ of) ∙ c.if-not-good_hidden.false)

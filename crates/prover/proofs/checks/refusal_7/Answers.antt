@@ -16,5 +16,5 @@ returns-then-of_inputs-ne0 c = refusal7_inputs _ _ _ _ _ _ _ _ _ _ _ (key_accept
 pub returns : goal.returns
 returns c =
     let of = c.numbers_of-k.ensures.of in
-    refusal7_lent _ _ _ _ _ _ _ _ _ _ _ (key_accepted _ (sym c.check-of_key.ensures ∙ c.if-of_key-ne0.false)) c.inputs_7-of_inputs.ensures c.if-of_inputs-ne0.false of c.replies_length_lem.ensures
+    refusal7_lent _ _ _ _ _ _ _ _ _ _ _ (key_accepted _ (sym c.check-of_key.ensures ∙ c.if-of_key-ne0.false)) c.inputs_7-of_inputs.ensures c.if-of_inputs-ne0.false of c.replies_length-count.ensures
     (λ long. c.lent.ensures _ _ (sym of.n_is) (sym of.m_is) (sym of.parties_is) long)

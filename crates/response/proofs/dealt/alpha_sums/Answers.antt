@@ -1,8 +1,6 @@
 use mathlib.Core.Path.{refl}
-use Prim.Native.Nat.{◌-◌}
 use native.Mathlib.Omega.{arith}
 use Rattle.lists.specs.Tab.{start, more, counted}
-use Rattle.response.specs.Held.{alpha_sum}
 use borrow.Author.Rules.{rules}
 use Rattle.response.proofs.dealt.alpha_sums.Goals as goal
 

@@ -1,12 +1,10 @@
 -- `reply::write_reply` meets its contract. Assumes nothing.
-use mathlib.Core.Path.{sym, ◌∙◌, ap}
+use mathlib.Core.Path.{sym, ◌∙◌}
 use Prim.Native.Nat.{◌*◌}
 use native.Mathlib.Omega.{arith}
-use lib.ListN.{length}
 use lib.Seq.{length-take-le}
 use Rattle.response.specs.Replies.{reply_of}
 use Rattle.response.proofs.Laws.{three_parts, third_long}
-use borrow.Author.Rules.{rules}
 use Rattle.response.proofs.reply.write_reply.Goals as goal
 
 pub slice_bounds-open_all_but-end-2 : goal.slice_bounds-open_all_but-end-2
@@ -29,9 +27,6 @@ pub open_all_but-requires-clause-depth_bound : goal.open_all_but-requires-clause
 open_all_but-requires-clause-depth_bound c =
     let p = c.requires in
     p.depth_bound.0
-
-pub slice_bounds-copy-end : goal.slice_bounds-copy-end
-slice_bounds-copy-end c = search rules
 
 pub put_numbers-requires-clause-limits : goal.put_numbers-requires-clause-limits
 put_numbers-requires-clause-limits c =
@@ -59,7 +54,7 @@ put_numbers-requires-clause-out_len c =
     let p = c.requires in
     third_long a.out.now c.open_all_but.new.out c.copy.new.out (16 * a.depth) 32 _
                 (c.open_all_but.auto.out ∙ length-take-le (16 * a.depth) a.out.now (omega (arith, p.out_len)))
-                (ap length c.copy.ensures ∙ omega (arith, slice_bounds-copy-end c)) p.out_len
+                (omega (arith, c.copy.auto.out, c.open_all_but.auto.out, c.requires.out_len)) p.out_len
 
 pub returns : goal.returns
 unfolding reply_of
@@ -68,4 +63,4 @@ returns c =
     let seeds = c.open_all_but.ensures in
     let gamma = c.copy.ensures in
     three_parts a.out.now c.open_all_but.new.out c.copy.new.out c.put_numbers.new.out (16 * a.depth) 32
-    (c.open_all_but.auto.out ∙ length-take-le (16 * a.depth) a.out.now (omega (arith, c.requires.out_len))) (ap length gamma ∙ omega (arith, slice_bounds-copy-end c)) seeds (gamma ∙ c.gamma_at-gamma.ensures) c.put_numbers.ensures
+    (c.open_all_but.auto.out ∙ length-take-le (16 * a.depth) a.out.now (omega (arith, c.requires.out_len))) (omega (arith, c.copy.auto.out, c.open_all_but.auto.out, c.requires.out_len)) seeds (gamma ∙ c.gamma_at-gamma.ensures) c.put_numbers.ensures
