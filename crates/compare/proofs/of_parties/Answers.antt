@@ -1,4 +1,3 @@
-use Prim.Native.Nat.{◌-◌}
 use mathlib.Core.Path.{◌≡◌}
 use native.Mathlib.Omega.{arith}
 use Rattle.compare.proofs.Laws.{spots_none, cat-start, cat-next, cat_stops, cat-done}

@@ -1,10 +1,7 @@
 -- `omega_and_pi` deals the execution and hashes it. Assumes nothing.
-use mathlib.Core.Path.{ap}
-use lib.ListN.{length}
 use mathlib.Core.Path.{◌∙◌}
 use native.Mathlib.Omega.{arith}
 use Rattle.message_3.proofs.Laws.{omega_of, pi_of}
-use borrow.Author.Rules.{rules}
 use Rattle.message_3.proofs.omega_and_pi.Goals as goal
 
 pub deal_masks-requires-clause-limits : goal.deal_masks-requires-clause-limits
@@ -36,12 +33,6 @@ pub deal_masks-requires-clause-parties_in_bounds : goal.deal_masks-requires-clau
 deal_masks-requires-clause-parties_in_bounds c =
     let p = c.requires in
     p.parties_in_bounds
-
-pub slice_bounds-copy-end : goal.slice_bounds-copy-end
-slice_bounds-copy-end c = search rules
-
-pub copy-requires : goal.copy-requires
-copy-requires c = omega (arith, slice_bounds-copy-end c, c.requires.out_len)
 
 pub pi_of-requires-clause-limits : goal.pi_of-requires-clause-limits
 pi_of-requires-clause-limits c =
@@ -92,4 +83,4 @@ returns-clause-pi_of c =
     pi_of _ (omega (arith, some)) d.masked c.pi_of.ensures.value
 
 pub returns-clause-out_len_2 : goal.returns-clause-out_len_2
-returns-clause-out_len_2 c = ap length c.copy.ensures ∙ omega (arith, slice_bounds-copy-end c)
+returns-clause-out_len_2 c = omega (arith, c.copy.auto.out, c.requires.out_len)

@@ -4,7 +4,6 @@ use Prim.Native.Nat.{◌*◌, ◌+◌, ◌-◌}
 use native.Mathlib.Omega.{arith}
 use Rattle.lists.specs.CatLaws.{part_length}
 use Rattle.message_3.proofs.Laws.{kept-none, kept_some}
-use borrow.Author.Rules.{rules}
 use Rattle.message_3.proofs.put_kept.Goals as goal
 
 pub returns-then-is_opened-clause-kept_puts : goal.returns-then-is_opened-clause-kept_puts
@@ -64,16 +63,13 @@ omega_and_pi-pi-requires-clause-out_len c =
     let f : a.at + 32 - a.at ≡ 32 = omega arith in
     rw f (part_length a.out.now a.at 32 (p.at_in_bounds_2 (sym c.is_opened.ensures ∙ c.if-is_opened.false)))
 
-pub slice_bounds-copy-end : goal.slice_bounds-copy-end
-slice_bounds-copy-end c = search rules
-
 pub slice_bounds-copy-end-2 : goal.slice_bounds-copy-end-2
 slice_bounds-copy-end-2 c = omega (arith, c.requires.pis_len, c.requires.at_in_bounds_2 (sym c.is_opened.ensures ∙ c.if-is_opened.false))
 
 pub returns-clause-kept_puts : goal.returns-clause-kept_puts
 returns-clause-kept_puts c =
     let o = c.omega_and_pi-pi.ensures in
-    kept_some (sym c.is_opened.ensures ∙ c.if-is_opened.false) o.out_len_2 (omega (arith, slice_bounds-copy-end c)) o.omega_of o.pi_of c.copy.ensures
+    kept_some (sym c.is_opened.ensures ∙ c.if-is_opened.false) o.out_len_2 (omega arith) o.omega_of o.pi_of c.copy.ensures
 
 pub returns-clause-leaves_len_unchanged : goal.returns-clause-leaves_len_unchanged
 returns-clause-leaves_len_unchanged c =

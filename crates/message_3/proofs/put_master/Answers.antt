@@ -8,7 +8,9 @@ use Rattle.prover.proofs.Laws.{put-none, put_some}
 use Rattle.message_3.proofs.put_master.Goals as goal
 
 pub returns-then-not-is_opened : goal.returns-then-not-is_opened
-returns-then-not-is_opened c = put-none _ _ _ _ (sym c.is_opened.ensures ∙ c.if-not-is_opened.true)
+returns-then-not-is_opened c =
+    let both = put-none _ _ _ _ (sym c.is_opened.ensures ∙ c.if-not-is_opened.true) in
+    record { puts = both.0; value = both.1 }
 
 pub slice_bounds-copy-end-2 : goal.slice_bounds-copy-end-2
 slice_bounds-copy-end-2 c =
@@ -19,4 +21,5 @@ pub returns : goal.returns
 returns c =
     let a = c.args in
     let e : 16 * a.x + 16 - 16 * a.x ≡ 16 = omega arith in
-    put_some _ _ _ _ _ (sym c.is_opened.ensures ∙ c.if-not-is_opened.false) (c.copy.ensures ∙ ap (λ (n : ℕ). take n (drop (16 * a.x) a.seeds.now)) e) (part_length a.seeds.now (16 * a.x) 16 (omega arith))
+    let both = put_some _ _ _ _ _ (sym c.is_opened.ensures ∙ c.if-not-is_opened.false) (c.copy.ensures ∙ ap (λ (n : ℕ). take n (drop (16 * a.x) a.seeds.now)) e) (part_length a.seeds.now (16 * a.x) 16 (omega arith)) in
+    record { puts = both.0; value = both.1 }

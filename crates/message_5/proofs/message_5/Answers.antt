@@ -5,7 +5,9 @@ use Rattle.prover.proofs.Laws.{refuses, writes, put_whole, Ready5, ready5}
 use Rattle.message_5.proofs.message_5.Goals as goal
 
 pub returns-then-refusal-ne0 : goal.returns-then-refusal-ne0
-returns-then-refusal-ne0 c = refuses _ _ _ _ c.refusal_5-refusal.ensures c.if-refusal-ne0.true
+returns-then-refusal-ne0 c =
+    let both = refuses _ _ _ _ c.refusal_5-refusal.ensures c.if-refusal-ne0.true in
+    record { value = both.0; out_after = both.1 }
 
 pub digest-h-requires-clause-key_value : goal.digest-h-requires-clause-key_value
 digest-h-requires-clause-key_value c =
@@ -59,4 +61,5 @@ returns c =
     let ready : let a = c.args in Ready5 a.key.now a.seeds.now a.secret.now a.e.now a.kappa.now a.seed.now a.out.now a.place (length a.work.now) (length a.entries.now) = ready5 _ _ _ _ _ _ c.args.out.now _ _ _ c.refusal_5-refusal.ensures c.if-refusal-ne0.false in
     let r = ready in
     let d = c.digest-h.ensures in
-    writes _ _ _ _ _ _ r.passes r.long (put_whole _ _ _ _ _ r.long d c.put.ensures)
+    let both = writes _ _ _ _ _ _ r.passes r.long (put_whole _ _ _ _ _ r.long d c.put.ensures) in
+    record { value = both.0; out_after = both.1 }
