@@ -6,7 +6,9 @@ use Rattle.prover.proofs.Laws.{refuses, writes, Ready7, ready7}
 use Rattle.message_7.proofs.message_7.Goals as goal
 
 pub returns-then-refusal-ne0 : goal.returns-then-refusal-ne0
-returns-then-refusal-ne0 c = refuses _ _ _ _ c.refusal_7-refusal.ensures c.if-refusal-ne0.true
+returns-then-refusal-ne0 c =
+    let both = refuses _ _ _ _ c.refusal_7-refusal.ensures c.if-refusal-ne0.true in
+    record { value = both.0; out_after = both.1 }
 
 pub slice_bounds-write-count : goal.slice_bounds-write-count
 slice_bounds-write-count c =
@@ -62,4 +64,5 @@ pub returns : goal.returns
 returns c =
     let ready : let a = c.args in Ready7 a.key.now a.seeds.now a.secret.now a.e.now a.kappa.now a.seed.now a.hidden.now a.out.now a.place (length a.work.now) (length a.entries.now) = ready7 _ _ _ _ _ _ _ c.args.out.now _ _ _ c.refusal_7-refusal.ensures c.if-refusal-ne0.false in
     let w = c.write-count.ensures in
-    writes _ _ _ _ _ _ ready.passes (sym w.value) w.out_after
+    let both = writes _ _ _ _ _ _ ready.passes (sym w.value) w.out_after in
+    record { value = both.0; out_after = both.1 }

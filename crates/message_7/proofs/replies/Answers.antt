@@ -1,6 +1,6 @@
 use mathlib.Core.Path.{◌≡◌, refl, sym, ◌∙◌, ap}
 use mathlib.Core.Bool.{false}
-use Prim.Native.Nat.{◌+◌, ◌-◌}
+use Prim.Native.Nat.{◌+◌}
 use native.Mathlib.Omega.{arith}
 use Rattle.protocol.specs.Prover.{opened}
 use Rattle.transcript.specs.Replies.{place_opened, place_kept, place-first}
@@ -85,7 +85,7 @@ put_reply-end-requires-clause-kept_in_bounds c =
     let l = c.loop-x in
     let t = c.loop-x-test.true in
     let o : opened a.e.now l.x ≡ false = sym c.is_opened.ensures ∙ c.if-not-is_opened.true in
-    room_7 a.k a.depth a.e.now a.hidden.now a.k.executions l.x l.at l.auto _ t l.invariant.3 o l.invariant.2 (l.invariant.6 ∙ p.out_len)
+    room_7 a.k a.depth a.e.now a.hidden.now a.k.executions l.x l.at l.kept _ t l.invariant.3 o l.invariant.2 (l.invariant.6 ∙ p.out_len)
 
 pub loop-x-preserved-then-not-is_opened : goal.loop-x-preserved-then-not-is_opened
 loop-x-preserved-then-not-is_opened c =
@@ -93,7 +93,7 @@ loop-x-preserved-then-not-is_opened c =
     let l = c.loop-x in
     let e = c.put_reply-end.ensures in
     let o : opened a.e.now l.x ≡ false = sym c.is_opened.ensures ∙ c.if-not-is_opened.true in
-    (omega (arith, c.loop-x-test.true), omega (arith, l.invariant.1), ap (λ j. j + 1) l.invariant.2 ∙ sym (place_kept _ _ o), at-kept a.k a.depth a.e.now a.hidden.now l.x l.at _ l.auto l.invariant.3 o l.invariant.2 e.value, e.leaves_len_unchanged ∙ l.invariant.4, e.work_len_unchanged ∙ l.invariant.5, search rules, replies_kept l.invariant.7 o l.invariant.2 e.reply_puts)
+    (omega (arith, c.loop-x-test.true), omega (arith, l.invariant.1), ap (λ j. j + 1) l.invariant.2 ∙ sym (place_kept _ _ o), at-kept a.k a.depth a.e.now a.hidden.now l.x l.at _ l.kept l.invariant.3 o l.invariant.2 e.value, e.leaves_len_unchanged ∙ l.invariant.4, e.work_len_unchanged ∙ l.invariant.5, search rules, replies_kept l.invariant.7 o l.invariant.2 e.reply_puts)
 
 pub loop-x-preserved : goal.loop-x-preserved
 loop-x-preserved c =

@@ -23,18 +23,18 @@ pub returns : goal.returns
 unfolding tab cat every count holds le4 rd4 words num first sub sum inverse_of out word64 draw opening depth key_of limits key_checks share coefficient b d s α αsum run o good_e good_hidden opened place hidden_of solves binary statement_checks checks3 part_at parts_of sizes good_header list transcript hidden given_count reply_size reply_at given good_numbers form_checks
 returns c =
     λ root. (
-  refl,
-  (
-    refl,
-    (
       refl,
       (
-        rw (first_b, first_d, first_s, second_b, one_γ) refl,
+        refl,
         (
-          rw (first_b, first_d, first_s, second_b, one_γ) refl,
-          (rw (first_b, first_d, first_s, second_b, one_γ) refl, (refl, (refl, (refl, (refl, tt))))),
+          refl,
+          (
+            rw (first_b, first_d, first_s, second_b, one_γ) refl,
+            (
+              rw (first_b, first_d, first_s, second_b, one_γ) refl,
+              (rw (first_b, first_d, first_s, second_b, one_γ) refl, (refl, (refl, (refl, (refl, tt))))),
+            ),
+          ),
         ),
       ),
-    ),
-  ),
-)
+    )
