@@ -1,8 +1,6 @@
-use Prim.Native.Nat.{◌-◌}
 use mathlib.Core.Path.{◌≡◌, sym, ◌∙◌}
 use native.Mathlib.Omega.{arith}
 use lib.ListN.{length}
-use mathlib.Core.Bool.{true}
 use borrow.Author.Tests.{eq-eqb, ne_eqb}
 use Rattle.lists.specs.TestLaws.{every_zero, every-next, every_stops, same-every, same_length}
 use borrow.Author.Rules.{rules}

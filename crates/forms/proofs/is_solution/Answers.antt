@@ -1,9 +1,8 @@
 use lib.ListN.{get_or}
-use Prim.Native.Nat.{◌%◌, ◌+◌, ◌*◌, ◌≤◌, ◌-◌}
+use Prim.Native.Nat.{◌%◌, ◌+◌, ◌*◌, ◌≤◌}
 use Rattle.numbers.specs.Sum.{sum}
 use Rattle.protocol.specs.Key.{A, t, key_of}
 use mathlib.Core.Path.{◌≡◌, sym, ◌∙◌}
-use mathlib.Core.Bool.{true}
 use native.Mathlib.Omega.{arith}
 use borrow.Author.Tests.{eq-eqb, ne_eqb}
 use Rattle.lists.specs.TestLaws.{every_zero, every-next}

@@ -1,6 +1,5 @@
 use Rattle.key.proofs.Laws.{next}
 use lib.ListN.{length-set}
-use Prim.Native.Nat.{◌-◌}
 use mathlib.Core.Path.{◌≡◌, refl}
 use native.Mathlib.Omega.{arith}
 use Rattle.lists.specs.Tab.{tab}

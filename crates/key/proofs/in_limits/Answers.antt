@@ -53,21 +53,21 @@ pub returns : goal.returns
 unfolding limits
 returns c =
     λ K of. sym (each_holds (limits K) (
-  le-leb 1 K.n (omega arith),
-  (
-    le-leb K.n 32 (omega arith),
-    (
-      le-leb 2 K.m (omega arith),
+      le-leb 1 K.n (omega arith),
       (
-        le-leb K.m 128 (omega arith),
+        le-leb K.n 32 (omega arith),
         (
-          lt-ltb K.n K.m (omega arith),
+          le-leb 2 K.m (omega arith),
           (
-            ap (λ (p : ℕ). member p Ns) (sym of.parties_is) ∙ sym c.is_parties.ensures ∙ c.if-not-is_parties.false,
-            (le-leb 2 K.M (omega arith), (le-leb K.M 32 (omega arith), (le-leb 1 K.τ (omega arith), (lt-ltb K.τ K.M (omega arith), tt)))),
+            le-leb K.m 128 (omega arith),
+            (
+              lt-ltb K.n K.m (omega arith),
+              (
+                ap (λ (p : ℕ). member p Ns) (sym of.parties_is) ∙ sym c.is_parties.ensures ∙ c.if-not-is_parties.false,
+                (le-leb 2 K.M (omega arith), (le-leb K.M 32 (omega arith), (le-leb 1 K.τ (omega arith), (lt-ltb K.τ K.M (omega arith), tt)))),
+              ),
+            ),
           ),
         ),
       ),
-    ),
-  ),
-))
+    ))
