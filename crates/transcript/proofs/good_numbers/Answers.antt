@@ -1,4 +1,4 @@
-use Prim.Native.Nat.{ℕ, ◌+◌, ◌*◌, ◌≤◌, ◌-◌}
+use Prim.Native.Nat.{ℕ, ◌+◌, ◌*◌, ◌≤◌}
 use mathlib.Core.Path.{◌≡◌, sym, ap, ◌∙◌}
 use mathlib.Core.Bool.{true, false}
 use mathlib.Core.List.{[]}
@@ -67,27 +67,25 @@ loop-x-preserved-then-not-is_opened c =
     let counted : c.given_count-count.result ≡ given_count (key_with c.args.k []) (parts_with c.args.e.now c.args.hidden.now c.args.replies.now) c.loop-x.x = c.given_count-count.ensures.1 (key_with c.args.k []) (parts_with c.args.e.now c.args.hidden.now c.args.replies.now) _ (of_with _ []) hides in
     let sized : c.reply_size.result ≡ reply_size (key_with c.args.k []) (parts_with c.args.e.now c.args.hidden.now c.args.replies.now) c.loop-x.x = c.reply_size.ensures.1 (key_with c.args.k []) (parts_with c.args.e.now c.args.hidden.now c.args.replies.now) _ (of_with _ []) is-kept hides in
     let reply : c.numbers_below.result ≡ reply_good (key_with c.args.k []) (parts_with c.args.e.now c.args.hidden.now c.args.replies.now) c.loop-x.x = c.numbers_below.ensures
-    ∙ good-kept (key_with c.args.k []) (parts_with c.args.e.now c.args.hidden.now c.args.replies.now) _ _ _ is-kept (tail-is (key_with c.args.k []) (parts_with c.args.e.now c.args.hidden.now c.args.replies.now) c.loop-x.x _ _ _ is-kept c.loop-x.invariant.4 sized counted) counted in
-    (
-  (omega arith),
-  (omega (arith, c.reply_size.ensures.0)),
-  (omega arith),
-  ap (λ j. j + 1) c.loop-x.invariant.3 ∙ sym (place_kept _ _ is-kept),
-  at-kept (key_with c.args.k []) (parts_with c.args.e.now c.args.hidden.now c.args.replies.now) _ _ _ c.loop-x.invariant.4 sized,
-  every-next _ _ c.loop-x.invariant.5 ∙ sym reply ∙ c.if-not-numbers_below.false,
-)
+    ∙ good-kept (key_with c.args.k []) (parts_with c.args.e.now c.args.hidden.now c.args.replies.now) _ _ _ is-kept (tail-is (key_with c.args.k []) (parts_with c.args.e.now c.args.hidden.now c.args.replies.now) c.loop-x.x _ _ _ is-kept c.loop-x.invariant.4 sized counted) counted in (
+      (omega arith),
+      (omega (arith, c.reply_size.ensures.0)),
+      (omega arith),
+      ap (λ j. j + 1) c.loop-x.invariant.3 ∙ sym (place_kept _ _ is-kept),
+      at-kept (key_with c.args.k []) (parts_with c.args.e.now c.args.hidden.now c.args.replies.now) _ _ _ c.loop-x.invariant.4 sized,
+      every-next _ _ c.loop-x.invariant.5 ∙ sym reply ∙ c.if-not-numbers_below.false,
+    )
 
 pub loop-x-preserved : goal.loop-x-preserved
 loop-x-preserved c =
-    let is_open : opened c.args.e.now c.loop-x.x ≡ true = sym c.is_opened.ensures ∙ c.if-not-is_opened.false in
-    (
-  (omega arith),
-  (omega arith),
-  (omega arith),
-  c.loop-x.invariant.3 ∙ sym (place_opened _ _ is_open),
-  at-opened (key_with c.args.k []) (parts_with c.args.e.now c.args.hidden.now c.args.replies.now) _ _ c.loop-x.invariant.4 is_open,
-  every-next _ _ c.loop-x.invariant.5 ∙ good-opened _ _ _ is_open,
-)
+    let is_open : opened c.args.e.now c.loop-x.x ≡ true = sym c.is_opened.ensures ∙ c.if-not-is_opened.false in (
+      (omega arith),
+      (omega arith),
+      (omega arith),
+      c.loop-x.invariant.3 ∙ sym (place_opened _ _ is_open),
+      at-opened (key_with c.args.k []) (parts_with c.args.e.now c.args.hidden.now c.args.replies.now) _ _ c.loop-x.invariant.4 is_open,
+      every-next _ _ c.loop-x.invariant.5 ∙ good-opened _ _ _ is_open,
+    )
 
 pub returns : goal.returns
 returns c = let e : c.loop-x.x ≡ c.args.k.executions = omega arith in sym (numbers_are (key_with c.args.k []) (parts_with c.args.e.now c.args.hidden.now c.args.replies.now) ∙ rw e at c.loop-x.invariant.5)

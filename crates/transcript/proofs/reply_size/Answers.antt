@@ -18,8 +18,7 @@ pub overflow_add-result-2 : goal.overflow_add-result-2
 overflow_add-result-2 c = omega (arith, c.depth.ensures.most, c.given_count.ensures.0)
 
 pub returns : goal.returns
-returns c =
-    (
+returns c = (
   (omega (arith, c.depth.ensures.most, c.given_count.ensures.0)),
   λ K P x of o e.
       ap₂ (λ (d n : ℕ). 16 * d + 32 + 4 * n) (c.depth.ensures.is K (sym of.parties_is)) (c.given_count.ensures.1 K P x of e) ∙ sym (size_kept K P x o),
