@@ -23,11 +23,11 @@ import words
 from repo import ROOT, expect, functions, listed, name_of, read
 
 PAGES = ["docs/CLAIMS.md", "README.md"]
-KNOWN_PAGES = ["README.md", "docs/CLAIMS.md", "docs/DECISIONS.md", "reference/README.md", "tests/vectors/README.md"]
+KNOWN_PAGES = ["README.md", "docs/CLAIMS.md", "docs/DECISIONS.md", "docs/PORT.md", "reference/README.md", "tests/vectors/README.md"]
 BUILT = ("target/", "dist/", "reference/build")
 TABLE_START, TABLE_END = "<!-- numbers -->\n", "<!-- end of numbers -->\n"
 ENTRIES = ["judge::run::judge", "pair::reader::pair", *(f"message_{n}::message_{n}" for n in (1, 3, 5, 7))]
-HEADERS = {"include/badge.h": "badge", "tests/c/primitives.h": "primitives"}
+HEADERS = {"include/badge.h": "badge_c", "tests/c/primitives.h": "primitives"}
 LETTERS = {"e": "E", "kappa": "K", "seed": "L"}     # document 01's letters, which the header has and code may not
 NUMBERS = {"u8": "uint8_t", "u32": "uint32_t", "u64": "uint64_t", "i64": "int64_t", "usize": "size_t", "": "void"}
 FINDINGS, KINDS = range(1, 5), range(1, 9)
@@ -103,7 +103,7 @@ def check_commands():
             expect(n in known, f"{page} names `make {n}`, which the Makefile has not")
     for other in (*(x + y for x in ("", "reference/") for y in ("GNUmakefile", "makefile", "Makefile.sh", "RCS", "SCCS")), ".gitattributes"):
         expect(not (ROOT / other).exists(), f"make reads {other} in place of the Makefile, or a reviewer is shown less by it")
-    pages = [name_of(x) for x in ROOT.rglob("*.md") if not name_of(x).startswith(("docs/landings/", "target/"))]
+    pages = [name_of(x) for x in repo.own_files("*.md") if not name_of(x).startswith("docs/landings/")]
     expect(sorted(pages) == sorted(KNOWN_PAGES), f"another page than {KNOWN_PAGES}")
 
 
@@ -128,7 +128,7 @@ def check_headers(found):
     for header, crate in HEADERS.items():
         text = re.sub(r"/\*.*?\*/", "", read(header), flags=re.S)
         said = [" ".join(x.split()) for x in re.findall(r"^\w+ \w+\([^;{}]*\)(?=;)", text, re.M)]
-        letters = LETTERS if crate == "badge" else {}
+        letters = LETTERS if crate == "badge_c" else {}
         right = [declaration(f, letters) for n, f in found.items() if n.startswith(crate + "::") and f.is_for_c()]
         for x in sorted(set(right) - set(said)):
             expect(False, f"{header} does not declare what C calls in crate {crate}: {x}")

@@ -3,7 +3,7 @@
 
 - Every name that a `use` line takes is used in its file, and every crate that crates.txt puts behind another is named there.
 - Every file of proofs, definitions and code starts with a comment that says what it is.
-- Every `old:` line of a must-fail edit stands exactly once in the file that it changes."""
+- Every `old:` line of a must-fail edit stands exactly once in the file that it changes, as the lines above it leave that file."""
 import pathlib
 import re
 import sys
@@ -22,7 +22,7 @@ def sources():
 
 def is_used(name, tokens):
     name = name.split(" as ")[-1].strip()
-    return name in tokens or ("_" in name and all(part in tokens for part in name.split("_") if part))
+    return name in tokens or ("◌" in name and all(part in tokens for part in name.split("◌") if part))
 
 
 def check_names(file, text):
@@ -35,21 +35,28 @@ def check_names(file, text):
 
 def check_crates(texts):
     for line in (ROOT / "crates.txt").read_text().splitlines():
-        crate, _, below = line.split("#")[0].partition(":")
-        text = texts.get(crate.strip(), "")
+        words, _, below = line.split("#")[0].partition(":")
+        crate = words.split()[0] if words.strip() else ""
+        text = texts.get(crate, "")
         wrong.extend(f"crates.txt puts {b} behind {crate}, which names nothing of it" for b in below.split()
-                     if not re.search(rf"Rattle·{b}[.·]|\b{b}::", text))
+                     if not re.search(rf"Rattle\.{b}\.|\b{b}::", text))
 
 
 def check_edit(edit):
-    file = None
+    name, file, text, old = edit.relative_to(ROOT), None, "", None
     for line in edit.read_text().splitlines():
-        if line.startswith("file: "):
-            file = edit.parent.parent / line[6:].strip()
-            if not line[6:].startswith(("src/", "specs/")):
-                wrong.append(f"{edit.relative_to(ROOT)} edits a proof, and not code or a definition")
-        elif line.startswith("old: ") and file.read_text().count(line[5:]) != 1:
-            wrong.append(f"{edit.relative_to(ROOT)}: this does not stand once in {file.name}: {line[5:]}")
+        kind, _, rest = line.partition(": ")
+        if kind == "file":
+            file = edit.parent.parent / rest.strip()
+            text = file.read_text()
+            if not rest.startswith(("src/", "specs/")):
+                wrong.append(f"{name} edits a proof, and not code or a definition")
+        elif kind == "old":
+            old = rest
+            if text.count(old) != 1:
+                wrong.append(f"{name}: this does not stand once in {file.name}: {old}")
+        elif kind == "new" and old is not None:
+            text, old = text.replace(old, rest, 1), None
 
 
 def main():
