@@ -107,6 +107,7 @@ for label, clause in (("`requires`", "requires { key.now ≡ run.now }"), ("a st
 for path, name in (("crates/judge/src/run.rt", "judge::run::judge"), ("crates/badge/src/lib.rt", "badge::badge_judge")):
     seen_anew(f"c: an entry point with `requires`: {name}", f"{name} is an entry point", path, put(JUDGED, r"\1    requires { key.now ≡ run.now }\n    ensures"))
 seen_anew("c: a file that nothing proves", "that no `mod` line names", "crates/badge/src/lib.rt", drop(r"^pub mod lent;\n"))
+seen_anew("c: a C function with a contract of its own", "badge_c::badge_judge has another contract", CALLS, put(r"result ≡ number_of \(judge ", "0 ≡ number_of (judge "))
 change("c: another contract", "contract badge_c::badge_judge has changed", CALLS, put(r"result ≡ number_of \(judge ", "0 ≡ number_of (judge "))
 
 # d. The claims.

@@ -8,7 +8,8 @@
   of the listed crates, and files, crates, C calls and make targets that exist; README.md lists every crate and every file of definitions
   that the claims rest on.
 - README.md's table and the header have each number of crates/refusals/src/lib.rt with its name and meaning, and the vectors each number.
-- The headers declare exactly the functions that C calls, each with its parameters' names, order and types.
+- The headers declare exactly the functions that C calls, each with its parameters' names, order and types. Each of crate badge_c has the
+  contract of the function of crate badge that has its name.
 - The words of contracts and definitions mean what the kit says (tools/words.py).
 - No other page claims anything, and no file stands in for one that make, Python or a reviewer reads.
 - What the claims rest on is as it was reviewed (tools/pins.py, tools/pinned.txt)."""
@@ -45,12 +46,28 @@ def named_functions(page):
 
 # Functions and what the pages name.
 
+def called_from_c(name):
+    return re.match(r"badge::(\w+::)*badge_", name)
+
+
+def plain(function):
+    """The function's text without what gives it to C."""
+    return re.sub(r'#\[[^\]]*\]|extern "C" |,\s*(?=\))|\s', "", function.text)
+
+
+def check_calls(found):
+    inner = {name.split("::")[-1]: plain(function) for name, function in found.items() if called_from_c(name)}
+    for name, function in found.items():
+        if name.startswith("badge_c::"):
+            expect(inner.get(function.name) == plain(function), f"{name} has another contract than the call of crate badge that has its name")
+
+
 def check_functions(found):
     named = named_functions("docs/CLAIMS.md")
     for name, function in found.items():
         called = (function.file.name, function.name) != ("main.rt", "main")
         expect(function.has("ensures") or not called, f"{name} has no `ensures`: whoever calls it learns nothing")
-        entry = function.is_for_c() or name in ENTRIES or (name in named and not function.parameters())
+        entry = function.is_for_c() or name in ENTRIES or called_from_c(name) or (name in named and not function.parameters())
         expect(not (entry and function.has("requires")), f"{name} is an entry point and has a `requires`")
     for name in ENTRIES:
         expect(name in found, f"the entry point {name} is not there")
@@ -98,7 +115,7 @@ def check_commands():
     header, known = "".join(map(read, HEADERS)), pins.rules()
     for page in PAGES:
         for n in re.findall(r"\bbadge_[a-z0-9_]+\b", read(page)):
-            expect(f" {n}(" in header, f"{page} names {n}, which no header declares")
+            expect(f" {n}(" in header or n in listed(), f"{page} names {n}, which no header declares")
         for n in re.findall(r"(?:`|^ +)make ([a-z-]+)", read(page), re.M):
             expect(n in known, f"{page} names `make {n}`, which the Makefile has not")
     for other in (*(x + y for x in ("", "reference/") for y in ("GNUmakefile", "makefile", "Makefile.sh", "RCS", "SCCS")), ".gitattributes"):
@@ -201,6 +218,7 @@ def main():
     check_trusted()
     check_crates()
     check_commands()
+    check_calls(found)
     check_headers(found)
     check_numbers()
     check_vectors()
