@@ -27,7 +27,7 @@ def is_used(name, tokens):
 
 def check_names(file, text):
     body = re.sub(r"^(?:ghost )?use .*$|^\s*(?:--|//).*$", "", text, flags=re.M)
-    tokens = set(re.findall(r"[^\s(){},;.\[\]:&!]+", body)) | set(re.findall(r"[^\s(){},;.]+", body))
+    tokens = set(re.findall(r"[^\s(){},;.\[\]:&!?<>]+", body)) | set(re.findall(r"[^\s(){},;.]+", body))
     names = [n.strip() for m in LISTED.finditer(text) for n in m.group(1).split(",") if n.strip()]
     names += [m.group(1) or m.group(2) for m in SINGLE.finditer(text)]
     wrong.extend(f"{file} takes {n} and does not use it" for n in names if not is_used(n, tokens))
