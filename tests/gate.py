@@ -128,6 +128,7 @@ seen_anew("e: no vector for a number", "judge.jsonl is answered with the number 
 change("f: an edit less", EDITS, EDIT, gone)
 change("f: another edit", EDITS, EDIT, put(r"^new: .*$", "new: x"))
 change("f: an edit that no longer fits", "does not stand once", EDIT, put(r"^old: .*$", "old: x y z"), check=TIDY)
+change("f: an edit that changes nothing", "changes nothing", EDIT, put(r"^old: (.*)\nnew: .*$", r"old: \1\nnew: \1"), check=TIDY)
 
 # g. The gate.
 
@@ -270,7 +271,8 @@ RUNS = (
     ("a theorem of a kept program is not proved", "", "", WELL, 0, "rattle", 1, "the gate stops: tools/check_proved.py failed"),
     ("a crate is neither proved nor kept", f"rt: k {KEPT}\n", "", WELL, 0, "", 1, "the gate stops: tools/check_proved.py failed"),
     ("a test fails", "", "", WELL, 0, "runs", 1, "the gate stops: make --jobs=2 --output-sync runs failed"),
-    ("a file stands in for another", "", "", WELL, 0, "reference/json.pyc", 1, "the gate stops: ./reference/json.pyc stands in for a file of the gate"),
+    *((f"{file} stands in for another file", "", "", WELL, 0, file, 1, f"the gate stops: ./{file} stands in for a file of the gate")
+      for file in ("reference/json.pyc", "crates/b/src/out/json.pyc")),
 )
 # What may lie in the folder: what rt built, and what earlier runs compiled, which the gate's checks do not read.
 BUILT = ("crates/b/out/b.so", "tools/__pycache__/repo.cpython-311.pyc", "reference/build/libreference.so", "target/x.so")

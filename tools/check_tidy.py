@@ -43,20 +43,22 @@ def check_crates(texts):
 
 
 def check_edit(edit):
-    name, file, text, old = edit.relative_to(ROOT), None, "", None
+    """Applies the edit's pairs in turn, as rt does."""
+    name, file, old, texts = edit.relative_to(ROOT), None, None, {}
     for line in edit.read_text().splitlines():
-        kind, _, rest = line.partition(": ")
-        if kind == "file":
-            file = edit.parent.parent / rest.strip()
-            text = file.read_text()
-            if not rest.startswith(("src/", "specs/")):
+        if line.startswith("file: "):
+            file = edit.parent.parent / line[6:].strip()
+            texts.setdefault(file, file.read_text())
+            if not line[6:].startswith(("src/", "specs/")):
                 wrong.append(f"{name} edits a proof, and not code or a definition")
-        elif kind == "old":
-            old = rest
-            if text.count(old) != 1:
+        elif line.startswith("old: "):
+            old = line[5:]
+            if texts[file].count(old) != 1:
                 wrong.append(f"{name}: this does not stand once in {file.name}: {old}")
-        elif kind == "new" and old is not None:
-            text, old = text.replace(old, rest, 1), None
+        elif line.startswith("new:") and old:
+            texts[file], old = texts[file].replace(old, line[4:].removeprefix(" "), 1), None
+    if all(text == file.read_text() for file, text in texts.items()):
+        wrong.append(f"{name} changes nothing")
 
 
 def main():

@@ -136,7 +136,7 @@ def pinned_claims():
         if text:
             yield title + (f" ({seen[title]})" if seen[title] > 1 else ""), digest(" ".join(text).encode())
     yield "claims in order", "\n".join(order)
-    yield from ((f"page {page}", digest(read(page).encode())) for page in (CLAIMS, "README.md", "docs/DECISIONS.md"))
+    yield from ((f"page {page}", digest(read(page).encode())) for page in (CLAIMS, "README.md", "docs/DECISIONS.md", "docs/PORT.md"))
 
 
 # Tests.
