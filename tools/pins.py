@@ -52,8 +52,10 @@ def words(function):
 
 
 def contract(function):
+    """The function's text but for what helps its proof, and where its words come from."""
+    text = re.sub(r"^#\[tactic\(.*\)\]\n", "", function.text, flags=re.M)
     sources = (f"  {here}: {crate} {module}{'' if name == here else ' ' + name}\n" for crate, module, name, here in words(function))
-    return function.text + "".join(sources)
+    return text + "".join(sources)
 
 
 def reached(named):
