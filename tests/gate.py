@@ -268,6 +268,7 @@ RUNS = (
     ("another crate says that it is proved", "fn b::t: proved\nrt: b proved\n", "rt: b proved\n== c\nfn b::t: proved\n", WELL, 0, "", 1, "the gate stops: tools/check_proved.py failed"),
     ("a test says that it is proved", "== b\nfn b::t: proved\nrt: b proved\n", "== b\nrt: b proved\ntests: 1\n== b\nfn b::t: proved\nrt: b proved\n", WELL, 0, "", 1, "the gate stops: tools/check_proved.py failed"),
     ("a theorem of a kept library is not there", "fn b::t: proved\nrt: b proved\n", "fn b::t: proved\n", WELL, 0, "crates/k/out/rlib/k.rlib/toolchain/mir.json", 1, "the gate stops: tools/check_proved.py failed"),
+    ("a kept library is older than the code, and a check does not prove its theorem", "", "", WELL, 0, "crates/k/out/rlib/stamp", 1, "the gate stops: tools/check_proved.py failed"),
     ("a theorem of a kept program is not proved", "", "", WELL, 0, "rattle", 1, "the gate stops: tools/check_proved.py failed"),
     ("a crate is neither proved nor kept", f"rt: k {KEPT}\n", "", WELL, 0, "", 1, "the gate stops: tools/check_proved.py failed"),
     ("a test fails", "", "", WELL, 0, "runs", 1, "the gate stops: make --jobs=2 --output-sync runs failed"),
@@ -286,11 +287,12 @@ def stand_in(file, text):
 def gate_folder(folder, failing):
     """A repository of three crates, of which rt keeps a library and a program."""
     library = "crates/k/out/rlib/k.rlib/toolchain/mir.json"
-    texts = {**{x: "#" for x in BUILT}, "crates.txt": "b:\nk: b\np: b k\n", "tools/pinned.txt": PINNED, "crates/p/src/main.rt": "",
+    texts = {**{x: "#" for x in BUILT}, "crates.txt": "b:\nk: b\np: b k\n", "tools/pinned.txt": PINNED, "crates/p/src/main.rt": "", "crates/k/src/lib.rt": "",
              library: '[["k::%s", {}]]' % ("u" if failing == library else "t")}
-    for name, text in {**texts, **({failing: "#"} if failing.endswith(".pyc") else {})}.items():
+    for name, text in {**texts, **({failing: "#"} if failing.endswith((".pyc", "stamp")) else {})}.items():
         (folder / name).parent.mkdir(parents=True, exist_ok=True)
         (folder / name).write_text(text)
+    os.utime(folder / library, (0, 0))
     for name in (".ci/run", "tools/check_proved.py"):
         (folder / name).parent.mkdir(exist_ok=True)
         shutil.copy(ROOT / name, folder / name)

@@ -46,10 +46,15 @@ def said(lines):
 
 
 def library(crate):
-    """The functions of the library that rt ci left, or nothing where there is none or a check has put back its own."""
-    folder = ROOT / "crates" / crate / "out" / "rlib"
-    file = folder / f"{crate}.rlib" / "toolchain" / "mir.json"
-    return {x[0] for x in json.loads(file.read_text())} if file.exists() and not (folder / "stamp").exists() else None
+    """The functions of the library that rt ci left, or of that which a check had built and rt ci put back, if no code is younger than it."""
+    folder = ROOT / "crates" / crate
+    file = folder / "out" / "rlib" / f"{crate}.rlib" / "toolchain" / "mir.json"
+    if not file.exists():
+        return None
+    put_back = (folder / "out" / "rlib" / "stamp").exists()
+    if put_back and any(x.stat().st_mtime > file.stat().st_mtime for x in (folder / "src").rglob("*")):
+        return None
+    return {x[0] for x in json.loads(file.read_text())}
 
 
 def listed():
