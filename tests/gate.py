@@ -68,6 +68,7 @@ for label, line, message in (
     ("a list that looks like a comment", EQUAL + "\nghost use Rattle.lists.specs.Index.{at as\n// , at as ◌≡◌\n};", "no plain name|another meaning"),
     ("a comment behind code", EQUAL + " // ghost use ..", "can hide code"),
     ("a number of another size", EQUAL + "\npub struct u32(u64);", "has a module or type u32"),
+    ("a field that reads like what a reference refers to", EQUAL + "\npub struct Pair {\n    pub new: u32,\n}", "has a field new"),
     ("a comment of several lines", "/*\n" + EQUAL + "\n*/", "can hide code"),
 ):
     seen_anew(f"a: {label}", message, CALLS, put(re.escape(EQUAL), line.replace("\\", r"\\")))

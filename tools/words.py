@@ -107,6 +107,8 @@ def check_comments(file, text):
     name, whole = name_of(file), file.read_text()
     odd = re.search(r'"|--|\{-', QUOTED.sub("", text))
     expect(not odd, f"{name} has what can hide code from these checks: {odd and odd.group(0)}")
+    field = re.search(r"\bstruct\b[^{;]*\{[^}]*\b(now|old|new|entry|exit)\s*:", text)
+    expect(not field, f"{name} has a field {field and field.group(1)}, which a contract reads like what a reference refers to")
     expect(len(re.findall(r"\bghost\b", text)) == len(GHOST_USE.findall(text)), f"{name} has a `ghost` that is no `use`")
     for m in re.finditer(rf"\b{CLAUSE}\{{", text):
         end = closing(text, m.end() - 1)
