@@ -129,7 +129,7 @@ seen_anew("e: no vector for a number", "judge.jsonl is answered with the number 
 change("f: an edit less", EDITS, EDIT, gone)
 change("f: another edit", EDITS, EDIT, put(r"^new: .*$", "new: x"))
 change("f: an edit that no longer fits", "does not stand once", EDIT, put(r"^old: .*$", "old: x y z"), check=TIDY)
-change("f: an edit that changes nothing", "changes nothing", EDIT, put(r"^old: (.*)\nnew: .*$", r"old: \1\nnew: \1"), check=TIDY)
+change("f: an edit that changes nothing", "changes nothing", EDIT, lambda text: re.sub(r"^old: (.*)\nnew: .*$", r"old: \1\nnew: \1", text, flags=re.M), check=TIDY)
 
 # g. The gate.
 
