@@ -95,7 +95,7 @@ def main():
     for crate in sorted({x.split("::")[0] for x in lost} & kept):
         names = [x for x in lost if x.startswith(crate + "::")]
         known = library(crate)
-        proved |= once_more(crate, names) if known is None else known
+        proved |= set(names) & (once_more(crate, names) if known is None else known)
     lost = [x for x in lost if x not in proved]
     if lost:
         stop(f"rt proved no {' '.join(lost)}")
