@@ -1,5 +1,4 @@
-use Prim.Native.Nat.{◌+◌, ◌*◌, ◌-◌, ◌%◌, ◌≤◌}
-use mathlib.Core.Bool.{true}
+use Prim.Native.Nat.{◌+◌, ◌*◌, ◌%◌, ◌≤◌}
 use native.Mathlib.Omega.{arith}
 use Rattle.lists.specs.TestLaws.{every_zero}
 use Rattle.numbers.specs.Residue.{Residue}

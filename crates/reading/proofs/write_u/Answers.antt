@@ -1,6 +1,4 @@
-use Prim.Native.Nat.{◌-◌}
 use Rattle.lists.specs.Tab.{start, more, done}
-use Rattle.reading.specs.Found.{u_at}
 use borrow.Author.Rules.{rules}
 use Rattle.reading.proofs.write_u.Goals as goal
 

@@ -1,4 +1,3 @@
-use Prim.Native.Nat.{◌-◌}
 use Rattle.lists.specs.Tab.{start, more, done}
 use Rattle.reading.proofs.Laws.{v_is}
 use borrow.Author.Rules.{rules}

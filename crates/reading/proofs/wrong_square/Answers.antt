@@ -1,4 +1,3 @@
-use Prim.Native.Nat.{◌-◌}
 use native.Mathlib.Omega.{arith}
 use Rattle.reading.proofs.Laws.{squared_none, squared_next, wrong_found, wrong_none}
 use borrow.Author.Rules.{rules}
