@@ -1,4 +1,4 @@
-# make test         the gate: the checks of make checks, then rt ci, then make runs
+# make test         the gate: make tidy and claims, then rt ci, then make gate-check and runs
 # make checks       what needs no proof: use lines and edits, the claims page, and that these two see what they are to see
 # make runs         what runs: the second implementation, the definitions and the proved library, on vectors and beside each other
 # make tests        make checks and make runs

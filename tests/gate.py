@@ -3,7 +3,7 @@
 
 The changes are made one at a time in copies of the repository's files. A change marked `anew` is seen even if whoever makes it writes
 tools/pinned.txt anew, the others by what is pinned. A change that no longer applies is a failure. The gate's own script is run last, with
-stand-ins for rt and make."""
+stand-ins for rt, rattle and make."""
 import concurrent.futures
 import itertools
 import os
@@ -16,8 +16,8 @@ import tempfile
 
 ROOT = pathlib.Path(__file__).resolve().parent.parent
 CLAIMS, TIDY = "tools/check_claims.py", "tools/check_tidy.py"
-EQUAL = "ghost use mathlib.Core.Path.{_≡_};"
-JUDGE, PAGE, HEADER, VECTORS = "crates/badge/src/lib.rt", "docs/CLAIMS.md", "include/badge.h", "tests/vectors/judge.jsonl"
+EQUAL = "ghost use Rattle.std.specs.Prelude.{◌≡◌, length};"
+CALLS, PAGE, HEADER, VECTORS = "crates/badge_c/src/lib.rt", "docs/CLAIMS.md", "include/badge.h", "tests/vectors/judge.jsonl"
 WORDS = "crates/protocol/specs/Judge.antt"
 EDIT = str(sorted(ROOT.glob("crates/*/must-fail/*.edit"))[0].relative_to(ROOT))
 EDITS = f"edits {EDIT.split('/must-fail')[0]} has changed"
@@ -54,54 +54,62 @@ def seen_anew(label, message, path, make):
 # a. Another meaning for a word of the kit.
 
 for label, line, message in (
-    ("a word of ours as ≡", "ghost use Rattle·refusals.specs.Number.{numberOf as _≡_};", "gives _≡_ another meaning"),
-    ("≤ as ≡", "ghost use Prim.Native.Nat.{_≤_ as _≡_};", "renames the kit's _≤_ to _≡_"),
-    ("≡ from another module of the kit", "ghost use mathlib.Core.Other.{_≡_};", "gives _≡_ another meaning"),
-    ("≡ in a list of several lines", "    ghost use Rattle·refusals.specs.Number.{\n        numberOf\n        as _≡_\n    };", "another meaning|another form"),
-    ("≡ as a part of an operator", EQUAL + "\nghost use Rattle·refusals.specs.Number.{numberOf as _≡_since_};", "gives _≡_since_ another meaning"),
-    ("length of ours", EQUAL + "\nghost use Rattle·lists.specs.Index.{at as length};", "gives length another meaning"),
-    ("a module under another name", EQUAL + "\nghost use Rattle·refusals.specs.Number as Path;", "of another form"),
-    ("a word from proofs", EQUAL + "\nghost use Rattle·judge.proofs.Laws.{law};", "neither the kit's nor in specs/"),
-    ("a word in « »", EQUAL + "\nghost use Rattle·lists.specs.Index.{at as «length»};", "can hide code"),
-    ("a list that looks like a comment", EQUAL + "\nghost use Rattle·lists.specs.Index.{at as\n// , at as _≡_\n};", "no plain name|another meaning"),
+    ("a word of ours as ≡", "ghost use Rattle.refusals.specs.Number.{number_of as ◌≡◌};", "gives ◌≡◌ another meaning"),
+    ("≤ as ≡", "ghost use Rattle.std.specs.Prelude.{◌≤◌ as ◌≡◌};", "renames the kit's ◌≤◌ to ◌≡◌"),
+    ("≡ from another module of the kit", "ghost use Rattle.std.specs.Other.{◌≡◌};", "gives ◌≡◌ another meaning"),
+    ("a test of std from another module", EQUAL + "\nghost use Rattle.std.specs.Other.{nat_lt};", "gives nat_lt another meaning"),
+    ("≡ in a list of several lines", "    ghost use Rattle.refusals.specs.Number.{\n        number_of\n        as ◌≡◌\n    };", "another meaning|another form"),
+    ("≡ as a part of an operator", EQUAL + "\nghost use Rattle.refusals.specs.Number.{number_of as ◌≡◌since◌};", "gives ◌≡◌since◌ another meaning"),
+    ("length of ours", EQUAL + "\nghost use Rattle.lists.specs.Index.{at as length};", "gives length another meaning"),
+    ("a module under another name", EQUAL + "\nghost use Rattle.refusals.specs.Number as Path;", "of another form"),
+    ("a word from proofs", EQUAL + "\nghost use Rattle.judge.proofs.Laws.{law};", "neither the kit's nor in specs/"),
+    ("a word of a library that is neither", EQUAL + "\nghost use Rattle.other.specs.Number.{law};", "neither the kit's nor in specs/"),
+    ("a word in « »", EQUAL + "\nghost use Rattle.lists.specs.Index.{at as «length»};", "can hide code"),
+    ("a list that looks like a comment", EQUAL + "\nghost use Rattle.lists.specs.Index.{at as\n// , at as ◌≡◌\n};", "no plain name|another meaning"),
     ("a comment behind code", EQUAL + " // ghost use ..", "can hide code"),
     ("a number of another size", EQUAL + "\npub struct u32(u64);", "has a module or type u32"),
+    ("a field that reads like what a reference refers to", EQUAL + "\npub struct Pair {\n    pub new: u32,\n}", "has a field new"),
     ("a comment of several lines", "/*\n" + EQUAL + "\n*/", "can hide code"),
 ):
-    seen_anew(f"a: {label}", message, JUDGE, put(re.escape(EQUAL), line.replace("\\", r"\\")))
-seen_anew("a: ≡ below the functions", "gives _≡_ another meaning", JUDGE, add("  ghost  use Rattle·refusals.specs.Number.{numberOf as _≡_};\n"))
-seen_anew("a: ≡ bound by a contract", "binds _≡_", JUDGE, put(r"ensures \{ λ r\.", "ensures { λ r _≡_."))
-seen_anew("a: ≡ bound by a let", "binds _≡_", JUDGE, put(r"⌜ ", "⌜ let _≡_ = differ in "))
-seen_anew("a: a parameter hides length", "binds length", "crates/badge/src/lent.rt", put(r"\bkey: &", "length: &"))
+    seen_anew(f"a: {label}", message, CALLS, put(re.escape(EQUAL), line.replace("\\", r"\\")))
+seen_anew("a: ≡ below the functions", "gives ◌≡◌ another meaning", CALLS, add("  ghost  use Rattle.refusals.specs.Number.{number_of as ◌≡◌};\n"))
+for label, binder in (("a product", "(◌≡◌ : ℕ → ℕ → Type 0) → "), ("a function", "λ ◌≡◌. "), ("a let", "let ◌≡◌ = differ in ")):
+    seen_anew(f"a: ≡ bound by {label} in a contract", "binds ◌≡◌", CALLS, put(r"^(    ensures \w+) \{ ", rf"\1 {{ {binder}"))
+for word in ("length", "result"):
+    seen_anew(f"a: a parameter hides {word}", f"binds {word}", "crates/badge/src/lent.rt", put(r"\bkey: &", f"{word}: &"))
 for label, more, message in (
-    ("≡ declared in specs/", "\npub _≡_ : ℕ → ℕ → Type 0\n_≡_ x y = Unit\n", "declares _≡_"),
+    ("≡ declared in specs/", "\npub ◌≡◌ : ℕ → ℕ → Type 0\n◌≡◌ x y = Unit\n", "declares ◌≡◌"),
     ("length declared in specs/", "\nabbrev pub length {ℓ} : {A : Type ℓ} → List A → ℕ\nlength xs = 0\n", "declares length"),
+    ("a test of std declared in specs/", "\npub nat_lt : ℕ → ℕ → Bool\nnat_lt x y = true\n", "declares nat_lt"),
     ("⊥ declared in specs/", "\n⊥\n  : Type 0\n⊥ = Unit\n", "declares ⊥"),
     ("true as a constructor", "\ndata Answer : Type 0 where\n  false true : Answer\n", "declares true"),
     ("length declared in a section", "\nmodule _ (n : ℕ) where\n  abbrev pub length : ℕ\n  length = n\n", "declares length"),
-    ("≡ as a parameter of a section", "\nmodule _ (_≡_ : ℕ → ℕ → Type 0) where\n  same : Type 0\n  same = 0 ≡ 1\n", "declares _≡_"),
-    ("≡ bound on the left", "\nsame _≡_ = 0 ≡ 1\n", "declares _≡_"),
-    ("another precedence", "\ninfix 90 _≡_\n", "declares _≡_"),
+    ("≡ as a parameter of a section", "\nmodule _ (◌≡◌ : ℕ → ℕ → Type 0) where\n  same : Type 0\n  same = 0 ≡ 1\n", "declares ◌≡◌"),
+    ("≡ bound on the left", "\nsame ◌≡◌ = 0 ≡ 1\n", "declares ◌≡◌"),
+    ("another precedence", "\ninfix 90 ◌≡◌\n", "declares ◌≡◌"),
     ("a module that hides the kit's", "\nmod lib\n", "has a module or type lib"),
-    ("a module's whole path", "\nother : ℕ\nother = Rattle·lists.specs.Index.at\n", "names a module outside its `use` lines"),
+    ("a module's whole path", "\nother : ℕ\nother = Rattle.lists.specs.Index.at\n", "names a module outside its `use` lines"),
     ("a glob", "\nuse Kid.*\n", "of another form"),
-    ("true of ours in specs/", "\nuse Rattle·lists.specs.Index.{at as true}\n", "gives true another meaning"),
+    ("true of ours in specs/", "\nuse Rattle.lists.specs.Index.{at as true}\n", "gives true another meaning"),
+    ("a word from proofs in specs/", "\nuse Rattle.lists.proofs.Laws.{law}\n", "takes words from Rattle.lists.proofs.Laws, which no pin follows"),
 ):
     seen_anew(f"a: {label}", message, WORDS, add(more))
-change("a: a word of ours for another", f"uses {JUDGE} has changed", JUDGE, put(r"\.\{judge\}", ".{other as judge}"))
+change("a: a word of ours for another", f"uses {CALLS} has changed", CALLS, put(r"\.\{judge, ", ".{other as judge, "))
 change("a: a definition changed", f"definitions {WORDS} has changed", WORDS, add("-- More.\n"))
 
 # b and c. Contracts that say nothing, or ask something.
 
 seen_anew("b: a function without `ensures`", "primitives::quiet has no `ensures`", "crates/primitives/src/lib.rt", add("\npub fn quiet(x: u32) -> u32 { x }\n"))
-seen_anew("b: a C function without `ensures`", "badge::badge_judge has no `ensures`", JUDGE, drop(r"^    ensures .*\n"))
-seen_anew("c: a C function with `requires`", "badge::badge_judge is an entry point", JUDGE, put(r"^    ensures", "    requires { ⌜ now key ≡ now run ⌝ }\n    ensures"))
-seen_anew("c: a `requires` with a name, behind an `ensures` with one", "badge::badge_judge is an entry point", JUDGE,
-          put(r"^    ensures \{", "    ensures right { λ r. ⌜ r ≡ r ⌝ }\n    requires read { ⌜ now key ≡ now run ⌝ }\n    ensures {"))
-seen_anew("c: an entry point with `requires`", "judge::run::judge is an entry point", "crates/judge/src/run.rt",
-          put(r"^(pub fn judge\([^{]*?)    ensures", r"\1    requires { ⌜ now key ≡ now run ⌝ }\n    ensures"))
-seen_anew("c: a file that nothing proves", "that no `mod` line names", JUDGE, drop(r"^pub mod lent;\n"))
-change("c: another contract", "contract badge::badge_judge has changed", JUDGE, put(r"⌜ r ≡", "⌜ 0 ≡"))
+seen_anew("b: a C function without `ensures`", "badge_c::badge_judge has no `ensures`", CALLS, drop(r"^    ensures .*\n"))
+JUDGED = r"^(pub (?:extern \"C\" )?fn (?:badge_)?judge\([^{]*?)    ensures"
+for label, clause in (("`requires`", "requires { key.now ≡ run.now }"), ("a starred `requires`", "requires* { ⌜ key.now ≡ run.now ⌝ }"),
+                      ("a `requires` with a name, behind an `ensures` with one", "ensures right { result ≡ result }\n    requires read { key.now ≡ run.now }")):
+    seen_anew(f"c: a C function with {label}", "badge_c::badge_judge is an entry point", CALLS, put(JUDGED, rf"\1    {clause}\n    ensures"))
+for path, name in (("crates/judge/src/run.rt", "judge::run::judge"), ("crates/badge/src/lib.rt", "badge::badge_judge")):
+    seen_anew(f"c: an entry point with `requires`: {name}", f"{name} is an entry point", path, put(JUDGED, r"\1    requires { key.now ≡ run.now }\n    ensures"))
+seen_anew("c: a file that nothing proves", "that no `mod` line names", "crates/badge/src/lib.rt", drop(r"^pub mod lent;\n"))
+seen_anew("c: a C function with a contract of its own", "badge_c::badge_judge has another contract", CALLS, put(r"result ≡ number_of \(judge ", "0 ≡ number_of (judge "))
+change("c: another contract", "contract badge_c::badge_judge has changed", CALLS, put(r"result ≡ number_of \(judge ", "0 ≡ number_of (judge "))
 
 # d. The claims.
 
@@ -121,6 +129,7 @@ seen_anew("e: no vector for a number", "judge.jsonl is answered with the number 
 change("f: an edit less", EDITS, EDIT, gone)
 change("f: another edit", EDITS, EDIT, put(r"^new: .*$", "new: x"))
 change("f: an edit that no longer fits", "does not stand once", EDIT, put(r"^old: .*$", "old: x y z"), check=TIDY)
+change("f: an edit that changes nothing", "changes nothing", EDIT, lambda text: re.sub(r"^old: (.*)\nnew: .*$", r"old: \1\nnew: \1", text, flags=re.M), check=TIDY)
 
 # g. The gate.
 
@@ -142,32 +151,34 @@ for label, old, new in (("another name", r"\brun\b(?=, size_t)", "file"), ("anot
                         ("another type", r"^uint32_t (badge_judge\()", r"int32_t \1"), ("a list that may change", r"const (uint8_t \*run,)", r"\1"),
                         ("a call less", r"^uint32_t badge_judge\(.*\n", "")):
     seen_anew(f"h: {label}", f"{HEADER} does not declare what C calls", HEADER, put(old, new))
-seen_anew("h: a call more", f"{HEADER} declares what crate badge has not", HEADER, put(r"^(uint32_t badge_)judge(\()", r"\1open\2void);\n\1judge\2"))
+seen_anew("h: a call more", f"{HEADER} declares what crate badge_c has not", HEADER, put(r"^(uint32_t badge_)judge(\()", r"\1open\2void);\n\1judge\2"))
 seen_anew("h: another name for tests", "primitives.h does not declare", "tests/c/primitives.h", put(r"uint64_t first", "uint64_t start"))
 change("h: the manual says more", f"header {HEADER} has changed", HEADER, put("0: accepted", "0: accepted, and the badge knows s"))
 
 # i. Code that these checks read otherwise than Rattle does, and what stands in for a file of the gate.
 
-PAIRS, ZERO = "crates/protocol/src/pairs.rt", "fn zero() -> u32\n    ensures { λ%s } { 0 } /*\n}\n{\n}\n// */\n"
+PAIRS, ZERO = "crates/protocol/src/pairs.rt", "fn zero() -> u32\n    ensures { %s } { 0 } /*\n}\n{\n}\n// */\n"
 seen_anew("i: a theorem in a comment that a text in quotes hides", "can hide code", PAIRS,
           lambda text: text.replace("pub fn demand_3()", 'const NOTE: [u8; 4] = *b"\n// "; /*\npub fn demand_3()') + "// */\n")
-seen_anew("i: a comment of antt's in a clause", "can hide code", JUDGE, add(ZERO % " r. ⌜ r ≡ 0 ⌝ {-\n// -}"))
-seen_anew("i: a clause over what looks like a comment", "a line of comment in a clause", JUDGE, add(ZERO % "\n// . ⌜ // ≡ 0 ⌝"))
-seen_anew("i: code in a contract", "can hide code", JUDGE, put(r"⌜ r ≡", "⌜ ⟦zero()⟧ ≡"))
-seen_anew("i: an export in another form", "exports a function in another form", JUDGE, put(r'^pub extern "C" fn', 'pub extern "C"\nfn'))
+seen_anew("i: a comment of antt's in a clause", "can hide code", CALLS, add(ZERO % "result ≡ 0 {-\n// -}"))
+seen_anew("i: a clause over what looks like a comment", "a line of comment in a clause", CALLS, add(ZERO % "λ\n// . // ≡ 0"))
+seen_anew("i: code in a contract", "can hide code", CALLS, put(r"\{ result ≡", "{ ⟦zero()⟧ ≡"))
+seen_anew("i: a `ghost` in another form", "has a `ghost` that is no `use`", CALLS, put(r"^    ensures", "    ghost n: { ℕ }\n    ensures"))
+seen_anew("i: an export in another form", "exports a function in another form", CALLS, put(r'^pub extern "C" fn', 'pub extern "C"\nfn'))
+seen_anew("i: an export by another attribute", "exports a function in another form", CALLS, put(r"^#\[unsafe\(no_mangle\)\]", "#[no_mangle]"))
 seen_anew("i: eqb declared in a section", "declares eqb", WORDS, put(r"^(module _ .*\n)", r"\1  eqb : ℕ → ℕ → Bool\n  eqb x y = true\n\n"))
 seen_anew("i: length bound by a let", "declares length", WORDS, put(r"^judge key x = ", "judge key x = let length = x in "))
 seen_anew("i: a module below a file of definitions", "has a module below it", WORDS, put(r"^(use .*\n)(?!use)", r"\1mod Run\n"))
 SHEET = "crates/sheet/src/lib.rt"
 change("i: a theorem for fewer runs", "contract sheet::lines_counted has changed", SHEET, put("≤ 99 → Counted", "≤ 9 → Counted"))
 seen_anew("i: a theorem less", "names sheet::lines_counted, which no listed crate has", SHEET, drop(r"^pub fn lines_counted.*\n.*\n\{\}\n"))
-seen_anew("i: a theorem with `requires`", "demand_3 is an entry point", PAIRS, put(r"^pub fn demand_3\(\)$", r"pub fn demand_3()\n    requires { ⌜ ⊥ ⌝ }"))
-seen_anew("i: a type on a line with another item", "has a module or type u32", JUDGE, add("const NONE: u8 = 0; pub struct u32(u64);\n"))
+seen_anew("i: a theorem with `requires`", "demand_3 is an entry point", PAIRS, put(r"^pub fn demand_3\(\)$", r"pub fn demand_3()\n    requires { ⊥ }"))
+seen_anew("i: a type on a line with another item", "has a module or type u32", CALLS, add("const NONE: u8 = 0; pub struct u32(u64);\n"))
 seen_anew("i: a macro for a call", "neither a number nor a call", HEADER, add("#define badge_judge(a, b, c, d) 0\n"))
 seen_anew("i: a file that hides differences", "make reads .gitattributes", ".gitattributes", lambda text: "tools/pinned.txt -diff\n")
 seen_anew("i: another page", "another page", "docs/GUARANTEES.md", lambda text: "Secrecy of s is proved.\n")
 for program in ("crates/verdict/src/main.rt", "crates/report/src/main.rt"):
-    change("i: a program that does more", f"program {program} has changed", program, put(r"\bmain\(\) \{", "main() {\n"))
+    change("i: a program that does more", f"program {program} has changed", program, put(r"\bmain\((.*)\) \{", r"main(\1) {\n"))
 change("i: README claims more", "page README.md has changed", "README.md", add("\nAn accepted file proves knowledge.\n"))
 change("i: a module without source", "tests has changed .*json.pyc", "reference/json.pyc", lambda text: "#")
 change("i: a header that gcc takes first", "tests has changed .*badge.h.gch", "include/badge.h.gch", lambda text: "#")
@@ -176,7 +187,7 @@ change("i: an edit of a proof", "edits a proof", EDIT, put(r"^file: .*$", "file:
 
 # What `make tidy` sees besides.
 
-change("tidy: a name that nothing uses", "takes _⊎_ and does not use it", JUDGE, add("ghost use mathlib.Core.Logic.{_⊎_};\n"), check=TIDY)
+change("tidy: a name that nothing uses", "takes ◌⊎◌ and does not use it", CALLS, add("ghost use Rattle.std.specs.Prelude.{◌⊎◌};\n"), check=TIDY)
 
 
 def checked(folder, check, *words):
@@ -186,7 +197,7 @@ def checked(folder, check, *words):
 
 def copy(folder):
     """The repository's own files, without what was built."""
-    built = shutil.ignore_patterns(".git", "target", "dist", "build", "__pycache__", "*.log")
+    built = shutil.ignore_patterns(".git", "target", "dist", "build", "out", "__pycache__", "*.log")
     shutil.copytree(ROOT, folder, ignore=built, dirs_exist_ok=True)
 
 
@@ -228,19 +239,45 @@ def try_changes(share):
 
 
 SHELLS = ("sh", "bash")
-# The gate's script, with stand-ins for rt and make: what rt ci says and its status, the make target that fails; then the gate's status
-# and its last line.
+# The gate's script, with stand-ins for rt, rattle and make: what rt ci says in place of what it says where all is well, its last line and
+# status, and what else fails; then the gate's status and its last line.
+KEPT = "is kept: an earlier run on this machine proved the same files over the same libraries"
+SAID = f"""rt: chose
+== b
+fn b::t: proved
+rt: b proved
+rt: k {KEPT}
+rt: p {KEPT}
+rt: ok; handles allowed: none; must-fail edits: 3 refused; done in this run: 1 of the 3 proofs
+"""
+PINNED = "".join(f"\n== contract {x}::t\n" for x in "bkp")
+WELL = "3 passed, 0 failed"
 RUNS = (
-    ("all is well", "3 passed, 0 failed", 0, "none", True, "3 passed, 0 failed"),
-    ("a proof fails", "2 passed, 1 failed", 1, "none", False, "2 passed, 1 failed"),
-    ("rt says that one failed and ends well", "2 passed, 1 failed", 0, "none", False, "2 passed, 1 failed"),
-    ("rt ends badly and says nothing of it", "3 passed, 0 failed", 2, "none", False, "the gate stops: rt ci ended with status 2"),
-    ("rt proves nothing", "0 passed, 0 failed", 0, "none", False, "the gate stops: rt ci ended with status 0"),
-    ("rt says nothing", "", 0, "none", False, "the gate stops: rt ci ended with status 0"),
-    ("a check fails", "3 passed, 0 failed", 0, "tools/check_claims.py", False, "the gate stops: tools/check_claims.py failed"),
-    ("a theorem is not proved", "3 passed, 0 failed", 0, "theorem", False, "the gate stops: rt proved no b::t"),
-    ("a test fails", "3 passed, 0 failed", 0, "runs", False, "the gate stops: make --jobs=2 --output-sync runs failed"),
+    ("all is well", "", "", WELL, 0, "", 0, WELL),
+    ("a proof fails", "", "", "2 passed, 1 failed", 1, "", 1, "2 passed, 1 failed"),
+    ("rt says that one failed and ends well", "", "", "2 passed, 1 failed", 0, "", 1, "2 passed, 1 failed"),
+    ("rt ends badly and says nothing of it", "", "", WELL, 2, "", 2, "the gate stops: rt ci ended with status 2"),
+    ("rt proves nothing", "", "", "0 passed, 0 failed", 0, "", 1, "the gate stops: rt ci ended with status 0"),
+    ("rt says nothing", SAID, "", "", 0, "", 1, "the gate stops: rt ci ended with status 0"),
+    ("a run of some crates alone", "", "", WELL + " (b and the crates below alone: not the gate)", 0, "", 1, "the gate stops: rt ci ended with status 0"),
+    ("a check fails", "", "", WELL, 0, "tools/check_claims.py", 1, "the gate stops: tools/check_claims.py failed"),
+    ("the checks' own trial fails", "", "", WELL, 0, "tests/gate.py", 1, "the gate stops: tests/gate.py failed"),
+    ("an edit is bad", "3 refused", "2 refused, 1 bad", WELL, 0, "", 1, "the gate stops: tools/check_proved.py failed"),
+    ("an edit is bad, others by a limit", "3 refused", "2 refused, 1 of them only by a limit, 1 bad", WELL, 0, "", 1, "the gate stops: tools/check_proved.py failed"),
+    ("rt does not say that all is well", "rt: ok;", "rt: so;", WELL, 0, "", 1, "the gate stops: tools/check_proved.py failed"),
+    ("a theorem is not proved", "fn b::t: proved", "fn b::u: proved", WELL, 0, "", 1, "the gate stops: tools/check_proved.py failed"),
+    ("another crate says that it is proved", "fn b::t: proved\nrt: b proved\n", "rt: b proved\n== c\nfn b::t: proved\n", WELL, 0, "", 1, "the gate stops: tools/check_proved.py failed"),
+    ("a test says that it is proved", "== b\nfn b::t: proved\nrt: b proved\n", "== b\nrt: b proved\ntests: 1\n== b\nfn b::t: proved\nrt: b proved\n", WELL, 0, "", 1, "the gate stops: tools/check_proved.py failed"),
+    ("a theorem of a kept library is not there", "fn b::t: proved\nrt: b proved\n", "fn b::t: proved\n", WELL, 0, "crates/k/out/rlib/k.rlib/toolchain/mir.json", 1, "the gate stops: tools/check_proved.py failed"),
+    ("a kept library is older than the code, and a check does not prove its theorem", "", "", WELL, 0, "crates/k/out/rlib/stamp", 1, "the gate stops: tools/check_proved.py failed"),
+    ("a theorem of a kept program is not proved", "", "", WELL, 0, "rattle", 1, "the gate stops: tools/check_proved.py failed"),
+    ("a crate is neither proved nor kept", f"rt: k {KEPT}\n", "", WELL, 0, "", 1, "the gate stops: tools/check_proved.py failed"),
+    ("a test fails", "", "", WELL, 0, "runs", 1, "the gate stops: make --jobs=2 --output-sync runs failed"),
+    *((f"{file} stands in for another file", "", "", WELL, 0, file, 1, f"the gate stops: ./{file} stands in for a file of the gate")
+      for file in ("reference/json.pyc", "crates/b/src/out/json.pyc")),
 )
+# What may lie in the folder: what rt built, and what earlier runs compiled, which the gate's checks do not read.
+BUILT = ("crates/b/out/b.so", "tools/__pycache__/repo.cpython-311.pyc", "reference/build/libreference.so", "target/x.so")
 
 
 def stand_in(file, text):
@@ -248,23 +285,41 @@ def stand_in(file, text):
     file.chmod(0o755)
 
 
+def gate_folder(folder, failing):
+    """A repository of three crates, of which rt keeps a library and a program."""
+    library = "crates/k/out/rlib/k.rlib/toolchain/mir.json"
+    texts = {**{x: "#" for x in BUILT}, "crates.txt": "b:\nk: b\np: b k\n", "tools/pinned.txt": PINNED, "crates/p/src/main.rt": "", "crates/k/src/lib.rt": "",
+             library: '[["k::%s", {}]]' % ("u" if failing == library else "t")}
+    for name, text in {**texts, **({failing: "#"} if failing.endswith((".pyc", "stamp")) else {})}.items():
+        (folder / name).parent.mkdir(parents=True, exist_ok=True)
+        (folder / name).write_text(text)
+    os.utime(folder / library, (0, 0))
+    for name in (".ci/run", "tools/check_proved.py"):
+        (folder / name).parent.mkdir(exist_ok=True)
+        shutil.copy(ROOT / name, folder / name)
+
+
 def try_gate():
     failures = []
-    with tempfile.TemporaryDirectory() as name:
-        folder = pathlib.Path(name)
-        (folder / ".ci").mkdir()
-        shutil.copy(ROOT / ".ci/run", folder / ".ci/run")
-        (folder / "bin").mkdir()
-        (folder / "tools").mkdir()
-        (folder / "tools/pinned.txt").write_text("\n== contract b::t\n")
-        for shell, (label, last, status, failing, good, end) in itertools.product(SHELLS, RUNS):
-            stand_in(folder / "bin/python3", f"for last; do :; done; [ \"$last\" != {failing} ]\n")
-            stand_in(folder / "bin/rt", f"echo working; [ {failing} = theorem ] || echo 'fn b::t: proved'; echo told >&2; [ -z '{last}' ] || echo '{last}'; exit {status}\n")
-            stand_in(folder / "bin/make", f"for last; do :; done; echo \"made $last\"; [ \"$last\" != {failing} ]\n")
+    for shell, (label, old, new, last, status, failing, ends, end) in itertools.product(SHELLS, RUNS):
+        with tempfile.TemporaryDirectory() as name:
+            folder = pathlib.Path(name)
+            gate_folder(folder, failing)
+            said = SAID.replace(old, new) if old else SAID
+            (folder / "said").write_text(said)
+            (folder / "bin").mkdir()
+            stand_in(folder / "bin/python3", f"case \" $* \" in *' tools/check_proved.py '*) exec {sys.executable} \"$@\";; esac\n"
+                     f"for last; do :; done; [ \"$last\" != \"{failing}\" ]\n")
+            stand_in(folder / "bin/rt", f"[ \"$*\" = ci ] || exit 9\n{' && '.join(f'[ -e {x} ]' for x in BUILT)} || echo 'something is gone'\n"
+                     f"cat said; echo told >&2; [ -z '{last}' ] || echo '{last}'; exit {status}\n")
+            stand_in(folder / "bin/rattle", f"[ \"{failing}\" != rattle ] && echo 'fn p::t: proved'\n")
+            stand_in(folder / "bin/make", f"for last; do :; done; [ ! -e reference/build ] && echo \"made $last\"; [ \"$last\" != \"{failing}\" ]\n")
             run = subprocess.run([shell, ".ci/run"], cwd=folder, env={**os.environ, "CI": "true", "PATH": f"{folder}/bin:{os.environ['PATH']}"},
                                  stdin=subprocess.DEVNULL, stdout=subprocess.PIPE, stderr=subprocess.STDOUT, text=True)
             lines = run.stdout.splitlines()
-            if (run.returncode == 0) != good or lines[-1:] != [end] or (good and lines != ["working", "fn b::t: proved", "told", "made runs", end]):
+            well = [*said.splitlines(), "told", "== p, which was kept: what is pinned of it", "fn p::t: proved",
+                    "proved: 3 pinned contracts, 2 crates kept from an earlier run", "made runs", end]
+            if run.returncode != ends or lines[-1:] != [end] or (ends == 0 and lines != well):
                 failures.append(f"the gate by {shell}, where {label}: status {run.returncode} and\n{run.stdout}")
     return failures
 

@@ -36,19 +36,27 @@ class Con:
     def __eq__(s, o): return s.n == o.n and s.a == o.a
     def __hash__(s): return hash((s.n, s.a))
     def __repr__(s): return f"{s.n}{s.a}"
-def getD(x, i, d): return x[i] if i < len(x) else d
+def get_or(x, i, d): return x[i] if i < len(x) else d
+def set_at(x, i, v): return x[:i] + (v,) + x[i + 1:] if i < len(x) else x
 G = {}        # name -> Fn or value
 AR = {}       # name -> arity
 CONS = {}     # constructor -> arity
 HERE = {}     # those that the file at hand uses or declares
 def builtin(n, ar, f): G[n] = Fn(ar, f, (), n); AR[n] = ar
-builtin('length', 1, len); builtin('getD', 3, getD); builtin('take', 2, lambda n, x: x[:n]); builtin('drop', 2, lambda n, x: x[n:])
-builtin('eqb', 2, lambda a, b: a == b); builtin('ltb', 2, lambda a, b: a < b); builtin('leb', 2, lambda a, b: a <= b); builtin('not', 1, lambda a: not a)
+# Words of std's Prelude; those of a line are one thing there.
+builtin('length', 1, len); builtin('take', 2, lambda n, x: x[:n]); builtin('drop', 2, lambda n, x: x[n:])
+for n in ('get_or', 'slice_index_or'): builtin(n, 3, get_or)
+for n in ('set', 'slice_set'): builtin(n, 3, set_at)
+for n in ('eqb', 'nat_eq'): builtin(n, 2, lambda a, b: a == b)
+for n in ('ltb', 'nat_lt'): builtin(n, 2, lambda a, b: a < b)
+for n in ('leb', 'nat_le'): builtin(n, 2, lambda a, b: a <= b)
+builtin('slice_index', 2, lambda x, i: get_or(x, i, 0)); builtin('not', 1, lambda a: not a); builtin('map', 2, lambda f, x: tuple(ap(f, y) for y in x))
 builtin('suc', 1, lambda x: x + 1)
 # ---- tokens and expressions
-TOK = re.compile(r"(?P<proj>(?<=[\s)])\.[^\s(){};,.]+)|(?P<p>[(){};,.])|(?P<n>[^\s(){};,.]+)")
+# A projection is written tight, as in `K.q` and `(f x).q`; another dot ends the names of a λ.
+TOK = re.compile(r"(?P<proj>(?<=[^\s({};,.])\.[^\s(){};,.]+)|(?P<p>[(){};,.])|(?P<n>[^\s(){};,.]+)")
 def toks(s): return [(m.lastgroup, m.group()) for m in TOK.finditer(s)]
-PREC = {'||': (30, 'l'), '&&': (35, 'l'), '+': (65, 'l'), '-': (65, 'l'), '++': (65, 'l'), '∷': (67, 'r'), '*': (70, 'l'), '/': (70, 'l'), '%': (70, 'l'), '⇒': (70, 'l'), '^': (75, 'r')}
+PREC = {'||': (30, 'l'), '&&': (35, 'l'), '==': (40, 'l'), '+': (65, 'l'), '-': (65, 'l'), '++': (65, 'l'), '∷': (67, 'r'), '*': (70, 'l'), '/': (70, 'l'), '%': (70, 'l'), '⇒': (70, 'l'), '^': (75, 'r')}
 PY = {}
 def py(n):
     if n not in PY: PY[n] = f"v{len(PY)}_" + re.sub(r'[^A-Za-z0-9]', '', n)
@@ -67,7 +75,7 @@ class P:
             op = s.pk(); p, as_ = PREC[op]
             if p < mn: break
             s.nx(); b = s.expr(p + (as_ == 'l'))
-            a = {'+': f'({a}+{b})', '-': f'max({a}-{b},0)', '*': f'({a}*{b})', '/': f'({a}//{b})', '%': f'({a}%{b})', '^': f'({a}**{b})', '++': f'({a}+{b})', '∷': f'(({a},)+{b})', '&&': f'({a} and {b})', '||': f'({a} or {b})', '⇒': f"Con('⇒',Lazy(lambda: {a}),{b})"}[op]
+            a = {'+': f'({a}+{b})', '-': f'max({a}-{b},0)', '*': f'({a}*{b})', '/': f'({a}//{b})', '%': f'({a}%{b})', '^': f'({a}**{b})', '++': f'({a}+{b})', '∷': f'(({a},)+{b})', '==': f'({a}=={b})', '&&': f'({a} and {b})', '||': f'({a} or {b})', '⇒': f"Con('⇒',Lazy(lambda: {a}),{b})"}[op]
         return a
     def lam(s):
         s.nx(); ns = []
@@ -82,7 +90,7 @@ class P:
     def atom(s):
         k, v = s.t[s.i]
         if v == '(':
-            s.nx(); e = s.expr(); s.ex(')'); return ('e', f'({e})')
+            s.nx(); e = s.expr(); s.ex(')'); return ('e', s.fields(f'({e})'))
         if v == 'record':
             s.nx(); s.ex('{'); fs = []
             while s.pk() != '}':
@@ -95,33 +103,34 @@ class P:
         if v == 'false': return ('e', 'False')
         if v == 'zero': return ('e', '0')
         if re.fullmatch(r'\d+|0x[0-9a-f]+', v): return ('e', v)
-        return ('n', v)
+        return ('e', s.fields(s.head(('n', v), []))) if s.kind() == 'proj' else ('n', v)
+    def fields(s, e):
+        while s.kind() == 'proj': e = f"({e}).{py(s.nx()[1:])}"
+        return e
+    def head(s, head, args):
+        if head[0] == 'e': return f"ap({head[1]},{','.join(args)})" if args else head[1]
+        n = head[1]; e = s.env.get(n)
+        if e == ('local',): return f"ap({py(n)},{','.join(args)})" if args else py(n)
+        if e: args = [py(x) for x in e[1]] + args; full = e[2]
+        else: full = n
+        if n == 'pick' and len(args) >= 3:
+            r = f"({args[1]} if {args[0]} else {args[2]})"; rest = args[3:]
+            return f"ap({r},{','.join(rest)})" if rest else r
+        if n in HERE:
+            assert len(args) == HERE[n], n
+            return f"Con({n!r}{''.join(',' + a for a in args)})"
+        ar = AR[full]
+        g = f"G[{full!r}]"
+        if ar == 0: r = f"{g}()"; return f"ap({r},{','.join(args)})" if args else r
+        return f"ap({g},{','.join(args)})" if args else g
     def app(s):
-        head = s.atom(); args = []; cur = None
-        def flush(head, args):
-            if head[0] == 'e': return f"ap({head[1]},{','.join(args)})" if args else head[1]
-            n = head[1]; e = s.env.get(n)
-            if e == ('local',): return f"ap({py(n)},{','.join(args)})" if args else py(n)
-            if e: args = [py(x) for x in e[1]] + args; full = e[2]
-            else: full = n
-            if n == 'pick' and len(args) >= 3:
-                r = f"({args[1]} if {args[0]} else {args[2]})"; rest = args[3:]
-                return f"ap({r},{','.join(rest)})" if rest else r
-            if n in HERE:
-                assert len(args) == HERE[n], n
-                return f"Con({n!r}{''.join(',' + a for a in args)})"
-            ar = AR[full]
-            g = f"G[{full!r}]"
-            if ar == 0: r = f"{g}()"; return f"ap({r},{','.join(args)})" if args else r
-            return f"ap({g},{','.join(args)})" if args else g
+        head = s.atom(); args = []
         while True:
-            k, v = (s.kind(), s.pk())
+            v = s.pk()
             if v is None or v in PREC or v in (')', '}', ';', ',', '.', 'in', '='): break
-            if k == 'proj':
-                s.nx(); head = ('e', f"({flush(head, args)}).{py(v[1:])}"); args = []; continue
             if v in ('λ', 'let'): args.append(s.expr()); break
-            a = s.atom(); args.append(flush(a, []))
-        return flush(head, args)
+            a = s.atom(); args.append(s.head(a, []))
+        return s.head(head, args)
 # ---- patterns: returns (tests, binds) over a python expression
 def pats(t):
     out = []; i = 0
@@ -156,7 +165,7 @@ def match(t, x):
     if t[0][1] == '(' : return match(t[1:-1], x) if len(pats(t)) == 1 else None
     if names[0] == 'suc':
         r = match(pats(t[1:])[0], f'({x}-1)'); return [f'{x}>0'] + r[0], r[1]
-    c = names[0].strip('_'); ts, bs = [f'{x}.n=={c!r}'], []
+    c = names[0].strip('◌'); ts, bs = [f'{x}.n=={c!r}'], []
     for i, q in enumerate(pats(t[1:])):
         r = match(q, f'{x}.a[{i}]'); ts += r[0]; bs += r[1]
     return ts, bs
@@ -169,7 +178,7 @@ def load(path, stop=None, only=None):
     other = {y: x for x, y in re.findall(r'([^\s{},]+) as ([^\s{},]+)[,}]', src) if x in CONS}   # constructors used by another name
     if stop: src = src.split(stop)[0]
     lines = [l for l in src.split('\n') if l.strip() and not l.strip().startswith('--')]
-    used = {x.strip('_') for l in lines if l.startswith('use ') for x in re.findall(r'[^\s{},]+', l)}
+    used = {x.strip('◌') for u in re.findall(r'^(?:pub )?use ([^\n{]*(?:\{[^}]*\})?)', src, re.M) for x in re.findall(r'[^\s{},]+', u)}
     HERE.clear(); HERE.update({c: n for c, n in CONS.items() if c in used})
     # logical lines by indentation
     secs = []  # (indent, params, names)
@@ -180,7 +189,10 @@ def load(path, stop=None, only=None):
         while secs and n <= secs[-1][0]:
             c = secs.pop()
             if secs: secs[-1][2].update(c[2])
-        if st.startswith(('use ', 'infix', 'unfolding ', 'pub ruleset', 'ruleset', 'open ')): i += 1; continue
+        if st.startswith(('use ', 'pub use ')):
+            while '{' in l and '}' not in lines[i]: i += 1
+            i += 1; continue
+        if st.startswith(('infix', 'unfolding ', 'pub ruleset', 'ruleset', 'open ')): i += 1; continue
         j = i + 1
         if st.startswith('module _'):
             ps = [x for g in re.findall(r'\(([^:()]*) :', st) for x in g.split()]
@@ -191,7 +203,7 @@ def load(path, stop=None, only=None):
             if st.startswith('pub data'):
                 for x in lines[i + 1:j]:
                     m = re.match(r'(\S+) : (.*)', x.strip())
-                    CONS[m.group(1).strip('_')] = HERE[m.group(1).strip('_')] = m.group(2).count('→')
+                    CONS[m.group(1).strip('◌')] = HERE[m.group(1).strip('◌')] = m.group(2).count('→')
             i = j; continue
         m = re.match(r'((unfoldable|abbrev) )?(pub )?(\S+) : ', body)
         if m and ' = ' not in body.split(' : ')[0]:

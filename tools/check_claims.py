@@ -8,7 +8,8 @@
   of the listed crates, and files, crates, C calls and make targets that exist; README.md lists every crate and every file of definitions
   that the claims rest on.
 - README.md's table and the header have each number of crates/refusals/src/lib.rt with its name and meaning, and the vectors each number.
-- The headers declare exactly the functions that C calls, each with its parameters' names, order and types.
+- The headers declare exactly the functions that C calls, each with its parameters' names, order and types. Each of crate badge_c has the
+  contract of the function of crate badge that has its name.
 - The words of contracts and definitions mean what the kit says (tools/words.py).
 - No other page claims anything, and no file stands in for one that make, Python or a reviewer reads.
 - What the claims rest on is as it was reviewed (tools/pins.py, tools/pinned.txt)."""
@@ -23,11 +24,11 @@ import words
 from repo import ROOT, expect, functions, listed, name_of, read
 
 PAGES = ["docs/CLAIMS.md", "README.md"]
-KNOWN_PAGES = ["README.md", "docs/CLAIMS.md", "docs/DECISIONS.md", "reference/README.md", "tests/vectors/README.md"]
+KNOWN_PAGES = ["README.md", "docs/CLAIMS.md", "docs/DECISIONS.md", "docs/PORT.md", "reference/README.md", "tests/vectors/README.md"]
 BUILT = ("target/", "dist/", "reference/build")
 TABLE_START, TABLE_END = "<!-- numbers -->\n", "<!-- end of numbers -->\n"
 ENTRIES = ["judge::run::judge", "pair::reader::pair", *(f"message_{n}::message_{n}" for n in (1, 3, 5, 7))]
-HEADERS = {"include/badge.h": "badge", "tests/c/primitives.h": "primitives"}
+HEADERS = {"include/badge.h": "badge_c", "tests/c/primitives.h": "primitives"}
 LETTERS = {"e": "E", "kappa": "K", "seed": "L"}     # document 01's letters, which the header has and code may not
 NUMBERS = {"u8": "uint8_t", "u32": "uint32_t", "u64": "uint64_t", "i64": "int64_t", "usize": "size_t", "": "void"}
 FINDINGS, KINDS = range(1, 5), range(1, 9)
@@ -45,12 +46,28 @@ def named_functions(page):
 
 # Functions and what the pages name.
 
+def called_from_c(name):
+    return re.match(r"badge::(\w+::)*badge_", name)
+
+
+def plain(function):
+    """The function's text without what gives it to C."""
+    return re.sub(r'#\[[^\]]*\]|extern "C" |,\s*(?=\))|\s', "", function.text)
+
+
+def check_calls(found):
+    inner = {name.split("::")[-1]: plain(function) for name, function in found.items() if called_from_c(name)}
+    for name, function in found.items():
+        if name.startswith("badge_c::"):
+            expect(inner.get(function.name) == plain(function), f"{name} has another contract than the call of crate badge that has its name")
+
+
 def check_functions(found):
     named = named_functions("docs/CLAIMS.md")
     for name, function in found.items():
         called = (function.file.name, function.name) != ("main.rt", "main")
         expect(function.has("ensures") or not called, f"{name} has no `ensures`: whoever calls it learns nothing")
-        entry = function.is_for_c() or name in ENTRIES or (name in named and not function.parameters())
+        entry = function.is_for_c() or name in ENTRIES or called_from_c(name) or (name in named and not function.parameters())
         expect(not (entry and function.has("requires")), f"{name} is an entry point and has a `requires`")
     for name in ENTRIES:
         expect(name in found, f"the entry point {name} is not there")
@@ -98,12 +115,12 @@ def check_commands():
     header, known = "".join(map(read, HEADERS)), pins.rules()
     for page in PAGES:
         for n in re.findall(r"\bbadge_[a-z0-9_]+\b", read(page)):
-            expect(f" {n}(" in header, f"{page} names {n}, which no header declares")
+            expect(f" {n}(" in header or n in listed(), f"{page} names {n}, which no header declares")
         for n in re.findall(r"(?:`|^ +)make ([a-z-]+)", read(page), re.M):
             expect(n in known, f"{page} names `make {n}`, which the Makefile has not")
     for other in (*(x + y for x in ("", "reference/") for y in ("GNUmakefile", "makefile", "Makefile.sh", "RCS", "SCCS")), ".gitattributes"):
         expect(not (ROOT / other).exists(), f"make reads {other} in place of the Makefile, or a reviewer is shown less by it")
-    pages = [name_of(x) for x in ROOT.rglob("*.md") if not name_of(x).startswith(("docs/landings/", "target/"))]
+    pages = [name_of(x) for x in repo.own_files("*.md") if not name_of(x).startswith("docs/landings/")]
     expect(sorted(pages) == sorted(KNOWN_PAGES), f"another page than {KNOWN_PAGES}")
 
 
@@ -128,7 +145,7 @@ def check_headers(found):
     for header, crate in HEADERS.items():
         text = re.sub(r"/\*.*?\*/", "", read(header), flags=re.S)
         said = [" ".join(x.split()) for x in re.findall(r"^\w+ \w+\([^;{}]*\)(?=;)", text, re.M)]
-        letters = LETTERS if crate == "badge" else {}
+        letters = LETTERS if crate == "badge_c" else {}
         right = [declaration(f, letters) for n, f in found.items() if n.startswith(crate + "::") and f.is_for_c()]
         for x in sorted(set(right) - set(said)):
             expect(False, f"{header} does not declare what C calls in crate {crate}: {x}")
@@ -201,6 +218,7 @@ def main():
     check_trusted()
     check_crates()
     check_commands()
+    check_calls(found)
     check_headers(found)
     check_numbers()
     check_vectors()

@@ -4,11 +4,12 @@
     definitions.py LIBRARY [--stop] [FILE..]    LIBRARY: the second implementation as a shared object; FILE: vector files, default all
 
 `reference/forms.py` has the forms of the files; what is not as it should be counts as different. With --stop it ends at the first
-vector that differs, and leaves the standards out. First SHA-256 and AES-128 by their definitions, on published examples and beside Python's hashlib and the second implementation. Then
-the vectors: those of keys up to WHOLE with SHA-256 and AES-128 by their definitions, the larger ones with both from the second
-implementation, for time. What stays outside the definitions is Python's: length, getD, take, drop, replicate, comparisons of numbers,
-bitAnd, bitOr, bitXor, and pos and neg of the answers for C; of a sheet, which files there are and their first 65536 bytes. Where q is 0 or another number of the key is past all limits, only the key's
-own tests are run, since a list of tests is built whole."""
+vector that differs, and leaves the standards out. First SHA-256 and AES-128 by their definitions, on published examples and beside
+Python's hashlib and the second implementation. Then the vectors: those of keys up to WHOLE with SHA-256 and AES-128 by their
+definitions, the larger ones with both from the second implementation, for time. What stays outside the definitions is Python's: of
+std's Prelude length, get_or, take, drop, replicate and their like, comparisons of numbers, bit_and, bit_or, bit_xor, and pos and neg_ℤ
+of the answers for C; of a sheet, which files there are and their first 65536 bytes. Where q is 0 or another number of the key is past
+all limits, only the key's own tests are run, since a list of tests is built whole."""
 import ctypes
 import functools
 import hashlib
@@ -34,13 +35,13 @@ def definitions(*files):
     spec = importlib.util.spec_from_file_location("antt_run", ROOT / "tools" / "antt_run.py")
     space = importlib.util.module_from_spec(spec)
     spec.loader.exec_module(space)
-    for name, bits in (("bitAnd", int.__and__), ("bitOr", int.__or__), ("bitXor", int.__xor__)):
+    for name, bits in (("bit_and", int.__and__), ("bit_or", int.__or__), ("bit_xor", int.__xor__)):
         space.builtin(name, 2, bits)
     space.builtin("replicate", 2, lambda n, x: (x,) * n)
     space.builtin("sha256", 1, digest)
     space.builtin("block", 2, block)
     space.builtin("pos", 1, lambda n: n)
-    space.builtin("negℤ", 1, lambda n: -n)
+    space.builtin("neg_ℤ", 1, lambda n: -n)
     for path, *names in files:
         if path.endswith(".rt"):
             space.enum(str(ROOT / "crates" / path), *names)
@@ -90,16 +91,16 @@ aes = definitions(("lists/specs/Tab", "tab"), ("gf/specs/Field",), ("sbox/specs/
                   ("aes_wide/specs/Wide", "counter"), ("streams/specs/Streams", "block"))
 a = definitions(
     ("lists/specs/Tab", "tab"), ("lists/specs/Index",), ("lists/specs/Bytes",), ("lists/specs/Check",), ("numbers/specs/Mod", "sub"),
-    ("numbers/specs/Sum", "sum"), ("numbers/specs/Inverse", "qs", "Ns", "inverseOf"), ("numbers/specs/Output", "out", "uOf", "vOf"),
+    ("numbers/specs/Sum", "sum"), ("numbers/specs/Inverse", "qs", "Ns", "inverse_of"), ("numbers/specs/Output", "out", "u_of", "v_of"),
     ("streams/specs/Streams", "word64", "number", "draw"), ("tree/specs/Tree",), ("protocol/specs/Key",), ("protocol/specs/Shares",),
     ("protocol/specs/Prover",), ("protocol/specs/Transcript",), ("protocol/specs/Judge",), ("protocol/specs/Pair",),
-    ("refusals/specs/Number", "numberOf"), ("pair/specs/Lent",), ("badge/specs/PairCall",),
-    ("reading/specs/Answers", "over", "hash1Of", "hash2Of", "bitsOf", "errorsOf"), ("answer/specs/Codes", "findingCode"),
-    ("answer/specs/Rows", "row", "rowAfter"))
+    ("refusals/specs/Number", "number_of"), ("pair/specs/Lent",), ("badge/specs/PairCall",),
+    ("reading/specs/Answers", "over", "hash1_of", "hash2_of", "bits_of", "errors_of"), ("answer/specs/Codes", "finding_code"),
+    ("answer/specs/Rows", "row", "row_after"))
 sheets = definitions(("lists/specs/Index",), ("line/specs/Line",), ("sheet/specs/Sheet",),
-                     ("sheet/specs/Counted", "longer", "linesOf", "howMany", "saysAccepted", "saysRefused", "valueOf", "isDigit", "areDigits",
-                      "isCount"))
-answers = definitions(("lists/specs/Check",), ("prover/src/lib.rt", "Answer"), ("prover/specs/Answers",), ("answer/specs/Codes", "codeOf"))
+                     ("sheet/specs/Counted", "longer", "lines_of", "how_many", "says_accepted", "says_refused", "value_of", "is_digit", "are_digits",
+                      "is_count"))
+answers = definitions(("lists/specs/Check",), ("prover/src/lib.rt", "Answer"), ("prover/specs/Answers",), ("answer/specs/Codes", "code_of"))
 
 
 def hexes(text):
@@ -107,13 +108,13 @@ def hexes(text):
 
 
 def keyed(key, then):
-    own = a.call("first", a.call("keyChecks", a.call("keyOf", key), key))
+    own = a.call("first", a.call("key_checks", a.call("key_of", key), key))
     q, *others = struct.unpack("<6I", bytes(key[:24]).ljust(24, b"\0"))
     return own if own.n == "refused" and (q == 0 or max(others) > 128) else then()
 
 
 def number(verdict):
-    return a.call("numberOf", verdict)
+    return a.call("number_of", verdict)
 
 
 def record(**fields):
@@ -131,31 +132,31 @@ def judge(v):
 
 def judge_lent(v):
     key, lengths = hexes(v["key"]), [ENOUGH if v[x] is None else v[x] for x in ("work_len", "at_len")]
-    return {"expect": number(keyed(key, lambda: a.call("judgeLent", key, *lengths, hexes(v["run"]))))}
+    return {"expect": number(keyed(key, lambda: a.call("judge_lent", key, *lengths, hexes(v["run"]))))}
 
 
 def counted(text):
     """Whether the text is as the theorem says, by the words of which the theorem is made."""
-    *above, last = sheets.call("linesOf", tuple(text))
+    *above, last = sheets.call("lines_of", tuple(text))
     numbers = [tuple(x) for x in bytes(last).split(b" ")[1::2]]
-    counts = [sheets.call("howMany", sheets.G[x], tuple(above)) for x in ("saysAccepted", "saysRefused")] + [len(above)]
+    counts = [sheets.call("how_many", sheets.G[x], tuple(above)) for x in ("says_accepted", "says_refused")] + [len(above)]
     return len(numbers) == 3 and last == sheets.call("totals", *numbers) and all(
-        sheets.call("isCount", x) and sheets.call("valueOf", 0, x) == n for x, n in zip(numbers, counts)) and all(
-        bytes(x[:3]) == b"run" and sheets.call("areDigits", 2, x[3:5]) and sheets.call("valueOf", 0, x[3:5]) == i
-        and sheets.call("saysRefused", x) != sheets.call("saysAccepted", x) for i, x in enumerate(above, 1))
+        sheets.call("is_count", x) and sheets.call("value_of", 0, x) == n for x, n in zip(numbers, counts)) and all(
+        bytes(x[:3]) == b"run" and sheets.call("are_digits", 2, x[3:5]) and sheets.call("value_of", 0, x[3:5]) == i
+        and sheets.call("says_refused", x) != sheets.call("says_accepted", x) for i, x in enumerate(above, 1))
 
 
 def report(v):
     """The sheet of the judge's numbers."""
     key, runs = hexes(v["key"])[:65536], [hexes(x)[:65536] for x in v["runs"][:99]]
-    text = sheets.call("sheetOf", tuple(number(keyed(key, lambda: a.call("judge", key, x))) for x in runs))
+    text = sheets.call("sheet_of", tuple(number(keyed(key, lambda: a.call("judge", key, x))) for x in runs))
     if not counted(v["text"].encode()):
         raise ValueError("the last line does not count those above it")
     return {"text": bytes(text).decode()}
 
 
 def prover(v):
-    K = a.call("keyOf", hexes(v["key"]))
+    K = a.call("key_of", hexes(v["key"]))
     seeds, secret, E, k, L, hidden = inputs(v)
     m1, m3 = a.call("message1", K, seeds), a.call("message3", K, seeds, secret, E, k)
     m5, m7 = a.call("message5", K, seeds, secret, E, k, L), a.call("message7", K, seeds, secret, E, k, L, hidden)
@@ -169,8 +170,8 @@ def lent(v):
     given = {1: (seeds,), 3: (seeds, secret, E, k), 5: (seeds, secret, E, k, L), 7: (seeds, secret, E, k, L, hidden)}[call]
     lengths = [ENOUGH if v[x] is None else v[x] for x in ("out_len", "place", "work_len", "at_len")]
     verdict = keyed(key, lambda: a.call(f"verdict{call}", key, *given, *lengths))
-    message = a.call(f"message{call}", a.call("keyOf", key), *given) if verdict.n == "accepted" else ()
-    code = answers.call("codeOf", answers.call("answerOf", verdict, message))
+    message = a.call(f"message{call}", a.call("key_of", key), *given) if verdict.n == "accepted" else ()
+    code = answers.call("code_of", answers.call("answer_of", verdict, message))
     place, before = v["place"], (FILL,) * (v["place"] + len(message) + 9 if v["out_len"] is None else v["out_len"])
     after = a.call("output", verdict, message, place, before)
     written = after[place:place + max(code, 0)]
@@ -193,19 +194,19 @@ def left(name, reading, before, length):
 
 def pair(v):
     """Through the C call's answer: its number, the eight numbers and the lent outputs after the call."""
-    key, K, asked = hexes(v["key"]), a.call("keyOf", hexes(v["key"])), v.get("lens") or {}
+    key, K, asked = hexes(v["key"]), a.call("key_of", hexes(v["key"])), v.get("lens") or {}
     length = {x: ENOUGH if asked.get(x) is None else asked[x] for x in forms.LENGTHS}
     lent_lists = a.call("lengths", *[length[x] for x in ("buffer1_len", "buffer2_len", "secret_len", "uv_len", "at_len", "work_len")])
-    r = keyed(key, lambda: a.call("pairCall", length["answer_len"], key, lent_lists, hexes(v["run1"]), hexes(v["run2"])))
+    r = keyed(key, lambda: a.call("pair_call", length["answer_len"], key, lent_lists, hexes(v["run1"]), hexes(v["run2"])))
     if r.n == "refused":
         return {"expect": {"refused": number(r)}}
     before = {x: (FILL,) * min(length[x], 16400) for x in length}
     answer = a.call("says", r)
-    code, row = a.call("findingCode", answer), a.call("rowAfter", answer, before["answer_len"])
+    code, row = a.call("finding_code", answer), a.call("row_after", answer, before["answer_len"])
     size = row[3] if code == 1 else 0
-    one, two = (bytes(left(f, r, before[x], size)).hex() for f, x in (("hash1Of", "buffer1_len"), ("hash2Of", "buffer2_len")))
-    bits = bytes(left("bitsOf", r, before["secret_len"], field(K, "m") if code == 2 else 0)).hex()
-    uv = list(left("errorsOf", r, before["uv_len"], field(K, "n") + field(K, "m") if code == 4 else 0))
+    one, two = (bytes(left(f, r, before[x], size)).hex() for f, x in (("hash1_of", "buffer1_len"), ("hash2_of", "buffer2_len")))
+    bits = bytes(left("bits_of", r, before["secret_len"], field(K, "m") if code == 2 else 0)).hex()
+    uv = list(left("errors_of", r, before["uv_len"], field(K, "n") + field(K, "m") if code == 4 else 0))
     if code < 0:
         stays(before["answer_len"], row, 0, ())
         return {"expect": {"refused": -code}}
@@ -219,7 +220,7 @@ def field(r, name):
 
 
 def trace(v):
-    sides = a.call("keyOf", hexes(v["key"])), a.call("partsOf", hexes(v["run1"])), a.call("partsOf", hexes(v["run2"]))
+    sides = a.call("key_of", hexes(v["key"])), a.call("parts_of", hexes(v["run1"])), a.call("parts_of", hexes(v["run2"]))
     e = a.call("execution", *sides)
     inputs = [[field(c, "kind"), field(c, "party"), len(field(c, "one"))] + [bytes(digest(field(c, x))).hex() for x in ("one", "two")]
               for c in a.call("comparisons", *sides, e)]
@@ -240,14 +241,14 @@ def execution(K, v):
     view = a.call("dealt", K, e, hexes(v["master"]), a.Fn(1, lambda j: secret[j]))
     hashes = {name: bytes(digest(x)).hex() for name, x in (("Omega", a.call("Ωin", K, view)), ("Pi", a.call("Πin", K, view, k)),
                                                           ("Psi", a.call("Ψin", K, view, k, L)))}
-    d, s = ([a.ap(field(view, x), j) for j in range(field(K, "m"))] for x in ("dN", "sN"))
+    d, s = ([a.ap(field(view, x), j) for j in range(field(K, "m"))] for x in ("d_n", "s_n"))
     return {"d_N": d, "s_N": s, "o": [a.call("o", K, view, L, i) for i in range(field(K, "N"))], **hashes}
 
 
 def primitives(v):
     what = v["what"]
     if what == "inverse":
-        return {"value": a.call("inverseOf", v["q"], v["N"])}
+        return {"value": a.call("inverse_of", v["q"], v["N"])}
     if what == "stream":
         count = len(v["numbers"])
         return {"numbers": [a.call("draw", v["q"], hexes(v["seed"]), v["first"], count, j) for j in range(count)]}
@@ -256,7 +257,7 @@ def primitives(v):
         opened = [bytes(a.call("opening", depth, master, h)) for h in leaves]
         return {"leaves": [bytes(a.call("leaf", depth, master, i)).hex() for i in leaves],
                 "opened": [[x[j:j + 16].hex() for j in range(0, len(x), 16)] for x in opened]}
-    K = a.call("keyOf", hexes(v["key"]))
+    K = a.call("key_of", hexes(v["key"]))
     if what == "shares":
         return leaf_shares(K, v)
     if what == "h":
@@ -286,7 +287,7 @@ def standards():
     seeds = [(hashlib.sha256(bytes([j])).digest()[:16], j << j) for j in range(64)]
     wrong = sum(bytes(sha.call("sha256", tuple(x))) != d for x, d in digests)
     wrong += sum(aes.call("aes128", hexes(key), hexes(plain)) != hexes(cipher) for key, plain, cipher in ciphers)
-    wrong += aes.call("keyExpansion", hexes(ciphers[0][0]))[-16:] != hexes("d014f9a8c9ee2589e13f0cc8b6630ca6")
+    wrong += aes.call("key_expansion", hexes(ciphers[0][0]))[-16:] != hexes("d014f9a8c9ee2589e13f0cc8b6630ca6")
     wrong += sum(aes.call("block", tuple(seed), j) != block(tuple(seed), j) for seed, j in seeds)
     print(f"definitions: {len(digests)} digests, {len(ciphers) + 1} examples of FIPS 197 and {len(seeds)} blocks run")
     return wrong

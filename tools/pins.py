@@ -5,11 +5,12 @@ import hashlib
 import json
 import re
 
-from repo import OURS, ROOT, expect, functions, listed, name_of, read, use_lines, uses
+from repo import LAWS, OURS, ROOT, expect, functions, listed, name_of, read, use_lines, uses
 
 PINNED = ROOT / "tools" / "pinned.txt"
 CLAIMS = "docs/CLAIMS.md"
-TESTS = ("Makefile", ".ci/*", "tools/**/*", "tests/**/*", "reference/**/*", "include/**/*", "examples/**/*", "crates/*/stdout", "crates/*/data/*")
+TESTS = ("Makefile", ".ci/*", "tools/**/*", "tests/**/*", "reference/**/*", "include/**/*", "examples/**/*",
+         *(f"crates/*/{x}" for x in ("stdin", "stdout", "args", "status", "data/**/*")), "HANDLES")
 APART = ("tools/pinned.txt", "include/badge.h")     # pinned by themselves
 BUILT = re.compile(r"^reference/build/|/__pycache__/|^tests/vectors/[^/]*\.jsonl$")
 REVIEW = {
@@ -47,12 +48,14 @@ def taken(file):
 def words(function):
     """The words of a contract that come from specifications of the listed crates."""
     tokens = set(re.findall(r"[^\s(){},;.]+", function.text))
-    return sorted(x for x in taken(function.file) if tokens.issuperset(part for part in x[3].split("_") if part))
+    return sorted(x for x in taken(function.file) if tokens.issuperset(part for part in x[3].split("◌") if part))
 
 
 def contract(function):
+    """The function's text but for what helps its proof, and where its words come from."""
+    text = re.sub(r"^#\[tactic\(.*\)\]\n", "", function.text, flags=re.M)
     sources = (f"  {here}: {crate} {module}{'' if name == here else ' ' + name}\n" for crate, module, name, here in words(function))
-    return function.text + "".join(sources)
+    return text + "".join(sources)
 
 
 def reached(named):
@@ -63,11 +66,13 @@ def reached(named):
         crate, module = todo.pop()
         file = ROOT / "crates" / crate / "specs" / (module.replace(".", "/") + ".antt")
         if module.startswith("declared."):
-            types.add((crate, module.split(".")[1]))
+            types.add((crate, next(x for x in module.split(".") if x[0].isupper())))
         elif not file.exists():
             expect(False, f"a definition of {name_of(file)} is taken, and the file is not there")
         elif file not in found:
             found.add(file)
+            laws = [use.path for use in uses(file) if LAWS.fullmatch(use.path) and not use.path.startswith("Rattle.std.")]
+            expect(not laws, f"{name_of(file)} has definitions that are pinned, and takes words from {', '.join(laws)}, which no pin follows")
             todo += [x[:2] for x in taken(file)]
     return sorted(found), sorted(types)
 
@@ -133,7 +138,7 @@ def pinned_claims():
         if text:
             yield title + (f" ({seen[title]})" if seen[title] > 1 else ""), digest(" ".join(text).encode())
     yield "claims in order", "\n".join(order)
-    yield from ((f"page {page}", digest(read(page).encode())) for page in (CLAIMS, "README.md", "docs/DECISIONS.md"))
+    yield from ((f"page {page}", digest(read(page).encode())) for page in (CLAIMS, "README.md", "docs/DECISIONS.md", "docs/PORT.md"))
 
 
 # Tests.

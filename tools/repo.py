@@ -1,6 +1,8 @@
 """What the checks read of the repository: the crates that crates.txt lists, their functions and their `use` lines."""
 import dataclasses
+import fnmatch
 import functools
+import os
 import pathlib
 import re
 
@@ -10,7 +12,10 @@ TOKEN = r"[^\s(){}\[\].;,]+|\[\]"
 GHOST_USE = re.compile(r"\bghost\s+use\s+([^\s{};]+)\.\{([^{};]*)\}\s*;")
 CODE_USE = re.compile(r"^[ \t]*(?:pub\s+)?use\s+[\w:]+(?:::\{[\w:,\s]*\})?(?:\s+as\s+\w+)?\s*;", re.M)
 SPEC_USE = re.compile(r"^[ \t]*(?:unfoldable\s+)?(?:pub\s+)?use\s+([^\s{}]+?)(?:\.\{([^{}]*)\}|\s+as\s+(\S+))[ \t]*$", re.M)
-OURS = re.compile(r"Rattle·(\w+?)(?:·specs)?\.specs\.([\w.-]+)")
+OURS = re.compile(r"Rattle\.(\w+)\.specs\.([\w.-]+)")
+LAWS = re.compile(r"Rattle\.(\w+)\.proofs\.([\w.-]+)")
+CLAUSE = r"(?:requires|ensures)\s*\*?(?:\s+[^\s{}*]+)?\s*"     # what stands in front of a clause's brace: also *, and a name
+BUILT = re.compile(r"(?:\.git|target|dist|reference/build|crates/[^/]+/out|(?:.+/)?__pycache__)(?:/|$)")
 wrong = []
 
 
@@ -27,10 +32,19 @@ def name_of(file):
     return str(file.relative_to(ROOT))
 
 
+def own_files(pattern):
+    """The repository's files by that pattern, without what make, rt and Python build."""
+    for folder, folders, names in os.walk(ROOT):
+        inside = os.path.relpath(folder, ROOT)
+        folders[:] = sorted(x for x in folders if not BUILT.match(os.path.normpath(f"{inside}/{x}")))
+        yield from (pathlib.Path(folder) / x for x in sorted(names) if fnmatch.fnmatchcase(x, pattern))
+
+
 @functools.cache
 def listed():
-    lines = (line.split("#")[0].split(":")[0].strip() for line in read("crates.txt").splitlines())
-    return [name for name in lines if name]
+    """The crates of crates.txt, in its order; a line has the name first, and maybe `staticlib` and counts behind it."""
+    lines = (line.split("#")[0].split(":")[0].split() for line in read("crates.txt").splitlines())
+    return [words[0] for words in lines if words]
 
 
 def files(folder, ending):
@@ -55,10 +69,10 @@ class Function:
     code: str       # the same without comments
 
     def is_for_c(self):
-        return re.search(r'\bextern\s*"C"|#\[no_mangle\]', self.code)
+        return re.search(r'\bextern\s*"C"|\bno_mangle\b', self.code)
 
     def has(self, clause):
-        return re.search(rf"\b{clause}(\s+[^\s{{}}]+)?\s*\{{", self.code)
+        return re.search(rf"\b{clause}\s*\*?(\s+[^\s{{}}*]+)?\s*\{{", self.code)
 
     def parameters(self):
         """Pairs of name and type."""
@@ -83,7 +97,7 @@ def body_start(text, at):
     """Where the body of a function starts: at the first brace that no `requires` and no `ensures` opens, be it with a name or without."""
     while True:
         brace = text.find("{", at)
-        if brace < 0 or not re.search(r"\b(requires|ensures)(\s+[^\s{}]+)?\s*$", text[at:brace]):
+        if brace < 0 or not re.search(rf"\b{CLAUSE}$", text[at:brace]):
             return brace if brace >= 0 else len(text)
         at = closing(text, brace) + 1
 

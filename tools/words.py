@@ -4,26 +4,34 @@ Every `use` line is of a form that these checks read. A word of the kit comes fr
 brings a word so spelled, no file of specs/ declares one, and no contract binds one that its file takes."""
 import re
 
-from repo import CODE_USE, GHOST_USE, OURS, SPEC_USE, TOKEN, closing, code, expect, files, functions, listed, name_of, uses
+from repo import CLAUSE, CODE_USE, GHOST_USE, LAWS, OURS, SPEC_USE, TOKEN, closing, code, expect, files, functions, listed, name_of, uses
 
-KIT = ("Prim", "mathlib", "native", "lib", "mir", "borrow", *(f"Rattle·{x}" for x in ("std", "bytes", "check", "io", "os", "libc")))
-HOMES = {word: home for home, row in {
-    "mathlib.Core.Path": "_≡_",
-    "Prim.Native.Nat": "ℕ zero suc _+_ _*_ _-_ _/_ _%_ _^_ _<_ _≤_ min",
-    "mathlib.Core.Bool": "Bool true false not",
-    "mathlib.Core.Logic": "_⊎_ inl inr",
-    "mathlib.Core.List": "List [] _∷_ _++_",
-    "lib.ListN": "length getD take drop set replicate",
-    "lib.Dec": "eqb ltb leb",
-    "lib.Bits": "bitAnd bitOr bitXor",
-    "lib.IntN": "ℤ pos negℤ",
+KIT = ("Prim", "mathlib", "native", "lib", "mir", "borrow", "denote", "Rattle", "std", "core")
+STD = "Rattle.std"
+# Where each word of std that a reader takes for granted comes from: what stands first in a row passes it on from what follows.
+PRELUDE, COMMON = "Rattle.std.specs.Prelude", "Rattle.std.proofs.Common"
+HOMES = {word: home.split() for home, row in {
+    f"{PRELUDE} {COMMON} Rattle.std.proofs.Math.Path mathlib.Core.Path": "◌≡◌",
+    f"{PRELUDE} {COMMON} Prim.Native.Nat": "ℕ zero suc pred ◌+◌ ◌*◌ ◌-◌ ◌/◌ ◌%◌ ◌^◌ ◌<◌ ◌≤◌ min max",
+    f"{PRELUDE} {COMMON} Rattle.std.proofs.Math.Bool mathlib.Core.Bool": "Bool true false cond not ◌&&◌ ◌||◌",
+    f"{PRELUDE} {COMMON} Rattle.std.proofs.Math.Logic mathlib.Core.Logic": "◌⊎◌ ◌≢◌ ◌↔◌",
+    f"{COMMON} Rattle.std.proofs.Math.Logic mathlib.Core.Logic": "inl inr",
+    f"{PRELUDE} {COMMON} mathlib.Core.List": "List [] ◌∷◌ ◌++◌",
+    f"{PRELUDE} {COMMON} Rattle.std.proofs.Math.ListN lib.ListN": "length get_or take drop set replicate",
+    f"{PRELUDE} {COMMON} Rattle.std.proofs.Math.Dec lib.Dec": "eqb ltb leb",
+    f"{PRELUDE} {COMMON} Rattle.std.specs.Int.Bits lib.Bits": "bit_and bit_or bit_xor",
+    f"{PRELUDE} {COMMON} Rattle.std.proofs.Math.IntN lib.IntN": "ℤ pos negsuc neg_ℤ nat_abs ◌+ℤ◌ ◌-ℤ◌ ◌*ℤ◌",
+    f"{PRELUDE} {COMMON}": "nat_eq nat_lt nat_le ◌==◌ ◌≤ℤ◌ ◌<ℤ◌ slice_get slice_index slice_index_or slice_set slice_range if◌then◌else◌ "
+                           "⊤ Option Some None Result Ok Err IfSome IfNone IfOk IfErr OnSome OnOk OnErr IsSome IsNone IsOk IsErr IsTrue IsFalse "
+                           "All Any Contains",
 }.items() for word in row.split()}
 TYPES = "u8 u16 u32 u64 usize i8 i16 i32 i64 isize bool f32 f64".split()
 # Comments that are not lines of their own, names in « », raw strings, characters that are not shown.
 UNSEEN = r"[^\S\n ]|[\u00ad\u200b-\u200f\u2028-\u202e\u2060-\u206f\ufeff]"
 HIDDEN = {".rt": rf"⟦|//|/\*|«|\bb?r#*\"|\bmod\s+\w+\s*\{{|{UNSEEN}", ".antt": rf"(?<!\S)--|\{{-|«|\"|{UNSEEN}"}
 # In scope with no `use` line.
-GIVEN = "⊥ ¬_ absurd Dec yes no Unit tt Id Path IsProp IsSet ∥_∥₁ ∣_∣₁ _×_ _→_ _↔_ Type now ⌜_⌝ _∗_ 𝓤 _>>=_ _>>_".split()
+GIVEN = ("⊥ ¬◌ absurd Dec yes no Unit tt Id Path IsProp IsSet ∥◌∥₁ ∣◌∣₁ ◌×◌ ◌→◌ Type result ⌜◌⌝ ◌∗◌ ◌-∗◌ ∀ₛ ∃ₛ ◌∧ₛ◌ ◌∨ₛ◌ ◌→ₛ◌ ⊤ₛ ⊥ₛ 𝓤 𝓛 "
+         "◌>>=◌ ◌>>◌").split()
 # What patterns are made of.
 CONSTRUCTORS = set("zero suc true false [] ∷ inl inr pos yes no tt →".split())
 
@@ -46,7 +54,7 @@ PATTERNS = (
 
 
 def parts(*words):
-    return {part for word in words for part in word.split("_") if part}
+    return {part for word in words for part in word.split("◌") if part}
 
 
 TAKEN = parts(*HOMES, *GIVEN)
@@ -58,19 +66,24 @@ def names(patterns, text):
     return {name for part in found for name in re.findall(TOKEN, part)}
 
 
-def is_ours(path):
-    m = OURS.fullmatch(path)
+def is_ours(path, form=OURS):
+    m = form.fullmatch(path)
     return m and m.group(1) in listed()
+
+
+def gives_laws(path, file):
+    """A law that a file of specs/ proves may cite laws of another crate's proofs/; a pinned file takes none (tools/pins.py)."""
+    return file.suffix == ".antt" and is_ours(path, LAWS)
 
 
 def is_kit(path):
     library = path.split(".")[0]
-    return library in KIT and library.removeprefix("Rattle·") not in listed()
+    return path.startswith(STD + ".") if library == "Rattle" and "." in path else library in KIT
 
 
 def is_free(name):
     """A name that a file may give to what it takes: no word of the kit, and no library's."""
-    return not parts(name) & TAKEN and name not in KIT and not name.startswith("Rattle")
+    return not parts(name) & TAKEN and name not in KIT
 
 
 def check_readable(file, text):
@@ -79,7 +92,7 @@ def check_readable(file, text):
     forms = [GHOST_USE, CODE_USE] if file.suffix == ".rt" else [SPEC_USE]
     known = sum(len(form.findall(text)) for form in forms)
     expect(len(re.findall(r"(?<![\w·-])use(?![\w·-])", text)) == known, f"{name} has a `use` of another form than M.{{a, b as c}}")
-    expect(text.count("Rattle·") == sum("Rattle·" in use.path for use in uses(file)), f"{name} names a module outside its `use` lines")
+    expect(text.count("Rattle.") == sum("Rattle." in use.path for use in uses(file)), f"{name} names a module outside its `use` lines")
     hidden = re.search(HIDDEN[file.suffix], text)
     expect(not hidden, f"{name} has what can hide code from these checks: {hidden and ascii(hidden.group(0))}")
     for m in re.finditer(r"\b(?:mod|struct|enum|type|use\s[^;]*\bas)\s+([^\s;({]+)", text, re.M):
@@ -87,7 +100,6 @@ def check_readable(file, text):
 
 
 QUOTED = re.compile(r"b'(?:\\.|[^'\\\n])'|b?\"(?:\\.|[^\"\\\n])*\"")
-CLAUSE = re.compile(r"\b(?:requires|ensures)(?:\s+[^\s{}]+)?\s*\{")
 
 
 def check_comments(file, text):
@@ -95,25 +107,27 @@ def check_comments(file, text):
     name, whole = name_of(file), file.read_text()
     odd = re.search(r'"|--|\{-', QUOTED.sub("", text))
     expect(not odd, f"{name} has what can hide code from these checks: {odd and odd.group(0)}")
+    field = re.search(r"\bstruct\b[^{;]*\{[^}]*\b(now|old|new|entry|exit)\s*:", text)
+    expect(not field, f"{name} has a field {field and field.group(1)}, which a contract reads like what a reference refers to")
     expect(len(re.findall(r"\bghost\b", text)) == len(GHOST_USE.findall(text)), f"{name} has a `ghost` that is no `use`")
-    for m in CLAUSE.finditer(text):
+    for m in re.finditer(rf"\b{CLAUSE}\{{", text):
         end = closing(text, m.end() - 1)
         expect(whole[m.start():end] == text[m.start():end], f"{name} has a line of comment in a clause, which antt does not read as one")
     marks = len(re.findall(r"\bno_mangle\b|\bextern\b", text))
-    expect(marks == 2 * len(re.findall(r'^#\[no_mangle\]\npub extern "C" fn ', text, re.M)), f"{name} exports a function in another form")
+    expect(marks == 2 * len(re.findall(r'^#\[unsafe\(no_mangle\)\]\npub extern "C" fn ', text, re.M)), f"{name} exports a function in another form")
 
 
 def check_uses(file):
     name = name_of(file)
     for use in uses(file):
         kit = is_kit(use.path)
-        expect(kit or is_ours(use.path), f"{name} takes words from {use.path}, which is neither the kit's nor in specs/ of a listed crate")
+        expect(kit or is_ours(use.path) or gives_laws(use.path, file), f"{name} takes words from {use.path}, which is neither the kit's nor in specs/ of a listed crate")
         expect(not (kit and use.alias), f"{name} renames the kit's {use.path} to {use.alias}")
         expect(is_free(use.alias), f"{name} gives {use.alias} another meaning: {use.path}")
         for word, here in use.names:
             expect(not re.search(r"[.\s]|//", word + here), f"{name} takes {word} of {use.path}, which is no plain name")
             expect(word == here or not kit, f"{name} renames the kit's {word} to {here}")
-            at_home = HOMES.get(word) == use.path and word == here
+            at_home = use.path in HOMES.get(word, ()) and word == here
             expect(at_home or is_free(here), f"{name} gives {here} another meaning: {word} of {use.path}")
 
 
@@ -133,8 +147,9 @@ def check_contract(name, function):
     """No contract binds a symbol of the kit, or a word that its file takes or that is there without."""
     here = parts(*GIVEN, *(word for use in uses(function.file) if is_kit(use.path) for word, _ in use.names))
     parameters = {p[0] for p in function.parameters()}
-    for word in sorted(bound(function.text[function.text.find(")"):]) | parameters):
-        expect(not parts(word) & (TAKEN if "_" in word else here), f"{name} binds {word}, which hides the kit's")
+    head = re.search(r"\bfn\b[^()]*", function.text).end()
+    for word in sorted(bound(function.text[head:]) | parameters):
+        expect(not parts(word) & (TAKEN if "◌" in word else here), f"{name} binds {word}, which hides the kit's")
 
 
 def check_words():

@@ -1,5 +1,5 @@
 -- Laws of what case_seeds/specs/Seeds.antt defines. Assumes nothing.
-use Rattle.std.specs.Prelude.{ℕ, ◌≡◌, refl, List, [], ◌∷◌, replicate}
+use Rattle.std.specs.Prelude.{◌≡◌, refl, [], ◌∷◌}
 use Rattle.lists.specs.Tab.{tab}
 use Rattle.gf.specs.Field.{product, remainder, gmul, squares, inverse}
 use Rattle.sbox.specs.Sbox.{bit, from_bits, affine_bit, affine, sbox_of}

@@ -1,12 +1,6 @@
 -- Seeds, found by search, whose numbers modulo 257 are the drawn shares of document 01's case d, and one whose first number is 1.
 -- Assumes nothing.
-use Rattle.std.specs.Prelude.{ℕ, ◌≡◌, refl, List, [], ◌∷◌, replicate}
-use Rattle.lists.specs.Tab.{tab}
-use Rattle.gf.specs.Field.{product, remainder, gmul, squares, inverse}
-use Rattle.sbox.specs.Sbox.{bit, from_bits, affine_bit, affine, sbox_of}
-use Rattle.aes.specs.Fips197.{sub_bytes, shift_rows, mix_byte, mix_columns, add_key, word, xor_word, rot_word, sub_word, x_power, rcon, temp, words, key_expansion, rounds, cipher, aes128}
-use Rattle.aes_wide.specs.Wide.{counter}
-use Rattle.streams.specs.Streams.{block, word64, number}
+use Rattle.std.specs.Prelude.{ℕ, List, ◌∷◌, replicate}
 
 -- a seed of these four bytes and twelve zeros
 abbrev padded : (a b c d : ℕ) → List ℕ

@@ -10,8 +10,8 @@ use Rattle.lists.specs.CatLaws.{cat-more}
 use Rattle.sha.specs.State.{Stands, Fed, fed_join, fed_nil}
 use Rattle.sha.specs.declared.Sha.{Sha}
 use Rattle.sha_core.specs.Fips180.{sha256}
-use Rattle.protocol.specs.Shares.{hin, b, s, input}
-use Rattle.protocol.specs.Prover.{prover_view, message1, hΓin, sized}
+use Rattle.protocol.specs.Shares.{hin, input}
+use Rattle.protocol.specs.Prover.{prover_view, message1, hΓin}
 use Rattle.execution.specs.Begun.{Begun}
 use Rattle.views.specs.Opened.{OpenedHash}
 use Rattle.message_1.specs.Parts.{FedH, First}
@@ -31,7 +31,7 @@ h_more {q} {m} {N} {D} {seeds} x a h b =
     }
 
 pub h_all : {q m N M D : ℕ} {seeds : List ℕ} {s₀ s : Sha} (x : ℕ) {r : List ℕ} → Begun 1 0 0 s₀ → FedH q m N D seeds s₀ x s → x ≡ M
-    → ((d : List ℕ) → Rattle.sha.specs.State.Stands s d → r ≡ sha256 d) → First q m N M D seeds r
+    → ((d : List ℕ) → Stands s d → r ≡ sha256 d) → First q m N M D seeds r
 unfolding message1 hΓin
 h_all {seeds} x begun a e f =
     record { is = λ K sized M deep. f _ (begun.stands _ _ (a.fed K sized deep)) ∙ ap (λ n. sha256 (input 1 0 0 (cat n (λ e. sha256 (hin K (prover_view K seeds [] e)))))) (e ∙ sym M) }

@@ -1,5 +1,5 @@
 -- Laws of what numbers/specs/Inverse.antt defines. Assumes nothing.
-use Rattle.std.specs.Prelude.{ℕ, ◌+◌, ◌*◌, ◌-◌, ◌/◌, ◌%◌, ◌<◌, ◌≤◌, ◌≡◌, refl, Bool, true, false, List, [], ◌∷◌, ◌⊎◌, eqb}
+use Rattle.std.specs.Prelude.{ℕ, ◌*◌, ◌%◌, ◌<◌, ◌≤◌, ◌≡◌, refl, Bool, true, false, List, [], ◌∷◌, ◌⊎◌, eqb}
 use Rattle.std.proofs.Common.{sym, ◌∙◌, subst, inl, inr, ⊎_elim, mod-eq_of_lt, arith, eqb-true, eq-eqb, ne_eqb}
 use Rattle.lists.specs.Index.{pick, member}
 use Rattle.numbers.specs.Mod.{Cong}

@@ -1,12 +1,7 @@
 -- The moduli and the numbers of parties that a key may have, and the inverse of each of the second modulo each of the first.
 -- Assumes nothing.
-use Rattle.std.specs.Prelude.{ℕ, ◌+◌, ◌*◌, ◌-◌, ◌/◌, ◌%◌, ◌<◌, ◌≤◌, ◌≡◌, refl, Bool, true, false, List, [], ◌∷◌, ◌⊎◌, eqb}
-use Rattle.std.proofs.Common.{sym, ◌∙◌, subst, inl, inr, ⊎_elim, mod-eq_of_lt, arith, eqb-true, eq-eqb, ne_eqb}
+use Rattle.std.specs.Prelude.{ℕ, ◌+◌, ◌-◌, ◌/◌, ◌%◌, ◌≡◌, true, List, [], ◌∷◌, eqb}
 use Rattle.lists.specs.Index.{pick, member}
-use Rattle.numbers.specs.Mod.{Cong}
-use Rattle.numbers.proofs.Mod.{cong_refl, cong_trans, cong_eq, cong_mul}
-use Rattle.numbers.specs.Prime.{Prime}
-use Rattle.numbers.proofs.Prime.{prime_257, prime_65537, prime_2147483647}
 
 -- x stands in the list l.
 pub record Member (x : ℕ) (l : List ℕ) : Type 0 where

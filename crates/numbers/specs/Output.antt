@@ -1,14 +1,9 @@
 -- Document 01, Shares and messages: the output o(i) of a party, and what the sum of all outputs says. Indices count from 0.
 -- Assumes nothing.
-use Rattle.std.specs.Prelude.{ℕ, zero, suc, ◌+◌, ◌*◌, ◌%◌, ◌<◌, ◌≤◌, ◌≡◌}
-use Rattle.std.proofs.Common.{sym, ◌∙◌, ap, ap₂, mod-lt, mul-zero, zero-add, arith}
+use Rattle.std.specs.Prelude.{ℕ, ◌+◌, ◌*◌, ◌%◌, ◌<◌, ◌≤◌, ◌≡◌}
 use Rattle.numbers.specs.Mod.{Cong, sub}
-use Rattle.numbers.proofs.Mod.{cong_refl, cong_sym, cong_trans, cong_eq, cong_by, cong_mod, cong_add, cong_mul, cong_zero, cong_same, sub_is, sub_cong, sub_zero, zero_sub, sub-lt}
 use Rattle.numbers.specs.Sum.{sum}
-use Rattle.numbers.proofs.Sum.{sum_ext, sum_same, sum_cong, sum-add, sum-mul, sum-mul-right, sum_swap, sum_const, sum_cong_none, sum_down, down}
-use Rattle.numbers.proofs.Prime.{square_self}
-use Rattle.numbers.specs.Inverse.{Member, qs, Ns, inverse_of}
-use Rattle.numbers.proofs.Inverse.{inverse-mul, q_positive, q_prime}
+use Rattle.numbers.specs.Inverse.{inverse_of}
 
 -- The numbers of one execution: N parties, n rows, m columns; A(l, k) and t(l) of the key; the coefficients β(l) and γ(k);
 -- s(k, i), b(k, i) and d(k, i), the shares of party i.

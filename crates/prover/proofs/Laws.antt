@@ -7,7 +7,7 @@ use mathlib.Core.List.{List, [], ◌∷◌, ◌++◌}
 use native.Mathlib.Numerals.{add-one}
 use native.Mathlib.Omega.{arith}
 use lib.ListN.{length, get_or, take, drop}
-use lib.Seq.{take_all, length-take-le}
+use lib.Seq.{take_all}
 use borrow.Author.Tests.{eq-eqb, ne_eqb, le-leb, lt-leb, leb-true, eqb-true, not-false}
 use Rattle.lists.specs.Written.{Puts, puts_none, puts_some, tail_written}
 use Rattle.lists.specs.Index.{holds, pick, count}
@@ -165,13 +165,6 @@ pub tail-room : {K : Key} {message : List ℕ} {from work entry : ℕ} (out : Li
 tail-room {from = from} out r =
     let place : from ≤ length out = r.place in
     omega (arith, r.long, part_length out from (length out - from) (omega arith))
-
--- the first n bytes of a list are put to the front of another
-pub put_front : (n : ℕ) (src out ys : List ℕ) → n ≤ length src → ys ≡ take (length (take n src)) (take n src) ++ drop (length (take n src)) out
-    → ys ≡ take n src ++ drop n out
-put_front n src out ys h y =
-    let z : length (take n src) ≡ n = length-take-le n src h in
-    y ∙ rw (z, take_all n (take n src) (omega (arith, z))) refl
 
 -- where they are the message, it is
 pub put_whole : (message src rest ys : List ℕ) (n : ℕ) → length message ≡ n → src ≡ message → ys ≡ take n src ++ rest → ys ≡ message ++ rest

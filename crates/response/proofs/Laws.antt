@@ -36,6 +36,7 @@ use Rattle.response.specs.Replies.{alpha_share, last_numbers, numbers_of, reply_
 
 -- a sum of differences is the difference of the sums
 pub sum-sub : {q : ℕ} → 0 < q → (n : ℕ) (f g : ℕ → ℕ) → sum n (λ i. sub q (f i) (g i)) % q ≡ sub q (sum n f) (sum n g)
+sum-sub {q = Prim.Native.Nat.zero} p n f g = elim p [ ]
 sum-sub {q = suc c} p n f g =
     cong_same (mod-lt _ p) (sub-lt p (sum n f) (sum n g))
     (cong_trans (cong_mod _ _)

@@ -8,7 +8,7 @@ ghost use Rattle.sha_core.specs.Fips180.{K, Ch, Maj, Σ0, Σ1, σ0, σ1, W, sche
 
 use std::num::wrapping_add_u32;
 
-const K: [u32; 64] = [
+const CONSTANTS: [u32; 64] = [
     0x428a2f98, 0x71374491, 0xb5c0fbcf, 0xe9b5dba5, 0x3956c25b, 0x59f111f1, 0x923f82a4, 0xab1c5ed5,
     0xd807aa98, 0x12835b01, 0x243185be, 0x550c7dc3, 0x72be5d74, 0x80deb1fe, 0x9bdc06a7, 0xc19bf174,
     0xe49b69c1, 0xefbe4786, 0x0fc19dc6, 0x240ca1cc, 0x2de92c6f, 0x4a7484aa, 0x5cb0a9dc, 0x76f988da,
@@ -179,7 +179,7 @@ fn add_all(v: [u32; 8], h: [u32; 8]) -> [u32; 8]
 pub fn table() -> [u32; 64]
     ensures { result ≡ K }
 {
-    K
+    CONSTANTS
 }
 
 // The hash value after one block more, with the constants lent.

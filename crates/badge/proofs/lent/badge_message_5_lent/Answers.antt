@@ -1,0 +1,17 @@
+-- `badge_message_5_lent` turns the answer into a number; no message is longer than 100000 bytes. Assumes nothing.
+use Rattle.answer.proofs.Codes.{code_is}
+use Rattle.badge.proofs.Codes.{small_5}
+use Rattle.badge.proofs.lent.badge_message_5_lent.Goals as goal
+
+pub code-requires : goal.code-requires
+code-requires c = small_5 _ _ _ _ _ _ _ _ _ _ c.message_5-answer.ensures.value
+
+pub returns-clause-value : goal.returns-clause-value
+returns-clause-value c =
+    let m = c.message_5-answer.ensures in
+    code_is c.code.ensures m.value
+
+pub returns-clause-out_after : goal.returns-clause-out_after
+returns-clause-out_after c =
+    let m = c.message_5-answer.ensures in
+    m.out_after

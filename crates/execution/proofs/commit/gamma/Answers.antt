@@ -1,0 +1,10 @@
+-- `commit::gamma` meets its contract. Assumes nothing.
+use Rattle.sha.specs.State.{fed_join}
+use Rattle.execution.proofs.commit.gamma.Goals as goal
+
+pub returns : goal.returns
+returns c =
+    rw (← c.block_of-r.ensures)
+    (c.finish.ensures _
+    (c.begin-s.ensures.stands _ _
+    (fed_join (fed_join c.update-with_seed.ensures c.numbers-with_numbers.ensures) c.update.ensures)))

@@ -1,0 +1,29 @@
+-- `inputs_3` tests the lengths, then the statement. Assumes nothing.
+use Rattle.protocol.specs.Key.{key_of}
+use mathlib.Core.Path.{sym, ◌∙◌}
+use mathlib.Core.List.{[]}
+use Rattle.prover.proofs.Laws.{inputs3_6, inputs3_rest, secret_long}
+use Rattle.prover.proofs.checks.inputs_3.Goals as goal
+
+pub returns-then-not-sized : goal.returns-then-not-sized
+returns-then-not-sized c =
+    let a = c.args in
+    let of = c.requires.of in
+    inputs3_6 (key_of a.key.now) _ _ _ _ (sym (c.sized.ensures.is (key_of a.key.now) (sym of.m_is) (sym of.executions_is)) ∙ c.if-not-sized.true)
+
+pub statement-requires-clause-read : goal.statement-requires-clause-read
+statement-requires-clause-read c =
+    let p = c.requires in
+    p
+
+pub statement-requires-clause-secret_len : goal.statement-requires-clause-secret_len
+statement-requires-clause-secret_len c =
+    let a = c.args in
+    let p = c.requires in
+    secret_long (key_of a.key.now) a.seeds.now a.secret.now [] a.kappa.now (sym (c.sized.ensures.is (key_of a.key.now) (sym p.of.m_is) (sym p.of.executions_is)) ∙ c.if-not-sized.false) ∙ sym p.of.m_is
+
+pub returns : goal.returns
+returns c =
+    let a = c.args in
+    let of = c.requires.of in
+    inputs3_rest (key_of a.key.now) _ _ _ _ (sym (c.sized.ensures.is (key_of a.key.now) (sym of.m_is) (sym of.executions_is)) ∙ c.if-not-sized.false) (c.statement.ensures _ _)

@@ -1,0 +1,20 @@
+-- `refusal_3` tests the key, the inputs and the lent lists in this order. Assumes nothing.
+use mathlib.Core.Path.{sym, ◌∙◌}
+use Rattle.key.specs.KeyLaws.{key_accepted}
+use Rattle.prover.proofs.Laws.{refusal3_key, refusal3_inputs, refusal3_lent}
+use Rattle.prover.proofs.checks.refusal_3.Goals as goal
+
+pub returns-then-of_key-ne0 : goal.returns-then-of_key-ne0
+returns-then-of_key-ne0 c = refusal3_key _ _ _ _ _ _ _ _ _ c.check-of_key.ensures c.if-of_key-ne0.true
+
+pub numbers_of-k-requires : goal.numbers_of-k-requires
+numbers_of-k-requires c = key_accepted _ (sym c.check-of_key.ensures ∙ c.if-of_key-ne0.false)
+
+pub returns-then-of_inputs-ne0 : goal.returns-then-of_inputs-ne0
+returns-then-of_inputs-ne0 c = refusal3_inputs _ _ _ _ _ _ _ _ _ (key_accepted _ (sym c.check-of_key.ensures ∙ c.if-of_key-ne0.false)) c.inputs_3-of_inputs.ensures c.if-of_inputs-ne0.true
+
+pub returns : goal.returns
+returns c =
+    let of = c.numbers_of-k.ensures.of in
+    refusal3_lent _ _ _ _ _ _ _ _ _ (key_accepted _ (sym c.check-of_key.ensures ∙ c.if-of_key-ne0.false)) c.inputs_3-of_inputs.ensures c.if-of_inputs-ne0.false of.τ_is of.executions_is c.size_3-count.ensures.0
+    (λ long. c.lent.ensures _ _ (sym of.n_is) (sym of.m_is) (sym of.parties_is) long)

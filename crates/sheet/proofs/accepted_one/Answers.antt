@@ -1,0 +1,10 @@
+-- `accepted_one` meets its contract. Assumes nothing.
+use mathlib.Core.Path.{refl}
+use borrow.Author.Tests.{eq-eqb, ne_eqb}
+use Rattle.sheet.proofs.accepted_one.Goals as goal
+
+pub returns-then-number-eq0 : goal.returns-then-number-eq0
+returns-then-number-eq0 c = rw (eq-eqb c.args.number 0 c.if-number-eq0.true) refl
+
+pub returns : goal.returns
+returns c = rw (ne_eqb c.args.number 0 c.if-number-eq0.false) refl
