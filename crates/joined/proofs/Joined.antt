@@ -18,7 +18,7 @@ use Rattle.protocol.specs.Prover.{opened}
 use Rattle.protocol.specs.Transcript.{Parts}
 use Rattle.protocol.specs.Judge.{hidden, view, kept_view}
 use Rattle.protocol.specs.Pair.{source, joined}
-use Rattle.execution.specs.Shown.{place_of, Holds, Shown}
+use Rattle.execution.specs.Shown.{Holds, Shown}
 use Rattle.joined.specs.Joined.{open_at, open_sum, with_party, Joined}
 
 -- a sum without one of its terms, and that term

@@ -1,25 +1,16 @@
 -- Document 01, Pair reader: the joined values s, b, d of an execution in a lent list, and how two transcripts' lists give them.
 -- Assumes nothing.
-use Prim.Native.Nat.{ℕ, zero, suc, ◌+◌, ◌*◌, ◌%◌, ◌<◌, ◌≤◌}
-use Rattle.std.specs.Prelude.{◌≡◌, refl, false, eqb}
-use Rattle.std.proofs.Common.{sym, ◌∙◌, ⊎_elim, zero-add, not-suc-le-zero, le_of_suc-le-suc, eq-or-lt_of_le, arith, eq-eqb, ne_eqb}
-use Rattle.std.proofs.Math.Path.{ap, ap₂}
+use Prim.Native.Nat.{ℕ, ◌+◌, ◌*◌, ◌%◌, ◌<◌}
+use Rattle.std.specs.Prelude.{◌≡◌, eqb}
 use mathlib.Core.List.{List}
-use Rattle.std.proofs.Math.Decide.{ℕ_discrete}
 use Rattle.std.proofs.Math.ListN.{length, get_or}
-use Rattle.lists.specs.Tab.{tab, tab-at, tab-length}
 use Rattle.lists.specs.Index.{pick}
-use Rattle.lists.specs.TestLaws.{pick_true, pick_false}
-use Rattle.numbers.proofs.Mod.{cong_add, cong_mod, cong_refl}
 use Rattle.numbers.specs.Sum.{sum}
-use Rattle.numbers.proofs.Sum.{sum_suc, sum_ext}
 use Rattle.protocol.specs.Key.{Key}
-use Rattle.protocol.specs.Shares.{View, b, d, s}
-use Rattle.protocol.specs.Prover.{opened}
+use Rattle.protocol.specs.Shares.{b, d, s}
 use Rattle.protocol.specs.Transcript.{Parts}
-use Rattle.protocol.specs.Judge.{hidden, view, kept_view}
-use Rattle.protocol.specs.Pair.{source, joined}
-use Rattle.execution.specs.Shown.{place_of, Holds, Shown}
+use Rattle.protocol.specs.Pair.{joined}
+use Rattle.execution.specs.Shown.{place_of}
 
 -- number j of party i, 0 for the hidden party
 abbrev pub open_at : ℕ → ℕ → List ℕ → ℕ → ℕ → ℕ

@@ -1,7 +1,7 @@
 -- `alphas` meets its contract. Invariant: the rows below k are written, and their sums stand in front. Assumes nothing.
 use mathlib.Core.Path.{◌≡◌}
 use mathlib.Core.List.{◌++◌}
-use Prim.Native.Nat.{◌+◌, ◌*◌, ◌-◌, ◌%◌, ◌≤◌}
+use Prim.Native.Nat.{◌*◌, ◌-◌, ◌%◌, ◌≤◌}
 use lib.ListN.{length, drop}
 use Rattle.lists.specs.Written.{Built}
 use Rattle.lists.specs.Tab.{tab}

@@ -111,11 +111,11 @@ returns-clause-written c =
     let p = c.requires in
     let n = c.front_inputs in
     λ K P so.
-          let S : Shown K (kept_view K P a.execution) a.leaves.now a.work.now = p.kept.shown K P a.execution so.sized so.deep so.hides so.at in
-          let some : 1 ≤ a.parties = omega (arith, p.limits.parties_least) in
-          written so S some p.leaves_len p.parties_in_bounds (omega (arith, p.reply_len))
-          (parts_joined a.out.now n.new.out _ (64 * a.parties + 4 * a.m) (n.auto.out ∙ length-take-le (64 * a.parties + 4 * a.m) a.out.now (omega (arith, p.out_len))) n.ensures
-          (c.later_inputs.ensures K _ (kept_shared so S some)))
+    let S : Shown K (kept_view K P a.execution) a.leaves.now a.work.now = p.kept.shown K P a.execution so.sized so.deep so.hides so.at in
+    let some : 1 ≤ a.parties = omega (arith, p.limits.parties_least) in
+    written so S some p.leaves_len p.parties_in_bounds (omega (arith, p.reply_len))
+    (parts_joined a.out.now n.new.out _ (64 * a.parties + 4 * a.m) (n.auto.out ∙ length-take-le (64 * a.parties + 4 * a.m) a.out.now (omega (arith, p.out_len))) n.ensures
+    (c.later_inputs.ensures K _ (kept_shared so S some)))
 
 pub returns-clause-out_after : goal.returns-clause-out_after
 returns-clause-out_after c =
@@ -123,8 +123,8 @@ returns-clause-out_after c =
     let p = c.requires in
     let n = c.front_inputs in
     λ K P so.
-            let S : Shown K (kept_view K P a.execution) a.leaves.now a.work.now = p.kept.shown K P a.execution so.sized so.deep so.hides so.at in
-            let some : 1 ≤ a.parties = omega (arith, p.limits.parties_least) in
-            laid_out so S some p.leaves_len p.parties_in_bounds (omega (arith, p.reply_len))
-            (parts_joined a.out.now n.new.out _ (64 * a.parties + 4 * a.m) (n.auto.out ∙ length-take-le (64 * a.parties + 4 * a.m) a.out.now (omega (arith, p.out_len))) n.ensures
-            (c.later_inputs.ensures K _ (kept_shared so S some)))
+    let S : Shown K (kept_view K P a.execution) a.leaves.now a.work.now = p.kept.shown K P a.execution so.sized so.deep so.hides so.at in
+    let some : 1 ≤ a.parties = omega (arith, p.limits.parties_least) in
+    laid_out so S some p.leaves_len p.parties_in_bounds (omega (arith, p.reply_len))
+    (parts_joined a.out.now n.new.out _ (64 * a.parties + 4 * a.m) (n.auto.out ∙ length-take-le (64 * a.parties + 4 * a.m) a.out.now (omega (arith, p.out_len))) n.ensures
+    (c.later_inputs.ensures K _ (kept_shared so S some)))

@@ -1,5 +1,5 @@
 use mathlib.Core.Path.{◌≡◌, refl, ◌∙◌}
-use Prim.Native.Nat.{◌*◌, ◌-◌}
+use Prim.Native.Nat.{◌*◌}
 use native.Mathlib.Omega.{arith}
 use Rattle.lists.specs.Written.{built_all, built_at, built_item, built_none}
 use Rattle.inputs.proofs.Laws.{other_in_lem, within}

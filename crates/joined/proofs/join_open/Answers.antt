@@ -1,7 +1,5 @@
-use Prim.Native.Nat.{◌-◌}
 use borrow.Author.Rules.{rules}
 use Rattle.lists.specs.Tab.{start, more, done}
-use Rattle.joined.specs.Joined.{open_sum}
 use Rattle.joined.proofs.join_open.Goals as goal
 
 pub loop-j-init : goal.loop-j-init

@@ -1,5 +1,5 @@
 use mathlib.Core.Path.{◌≡◌, refl, ◌∙◌}
-use Prim.Native.Nat.{◌*◌, ◌-◌}
+use Prim.Native.Nat.{◌*◌}
 use native.Mathlib.Omega.{arith}
 use Rattle.execution.proofs.Laws.{part-long}
 use Rattle.masks.proofs.Laws.{masks_none, masks_next}

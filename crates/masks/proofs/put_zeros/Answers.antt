@@ -1,5 +1,4 @@
 use mathlib.Core.Path.{◌≡◌, refl}
-use Prim.Native.Nat.{◌-◌}
 use native.Mathlib.Omega.{arith}
 use Rattle.execution.proofs.Laws.{put-none, put_next}
 use borrow.Author.Rules.{rules}

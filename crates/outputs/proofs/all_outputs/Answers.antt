@@ -1,5 +1,4 @@
 use borrow.Author.Rules.{rules}
-use Prim.Native.Nat.{◌-◌}
 use Rattle.lists.specs.Tab.{start, more, done}
 use Rattle.outputs.proofs.all_outputs.Goals as goal
 

@@ -1,12 +1,10 @@
 use borrow.Author.Rules.{rules}
 use native.Mathlib.Omega.{arith}
-use Prim.Native.Nat.{◌-◌}
 use mathlib.Core.Path.{◌≡◌}
 use Rattle.numbers.proofs.Mod.{cong_refl, cong_mul}
 use Rattle.numbers.proofs.Inverse.{q_positive, parties_most}
 use Rattle.numbers.specs.Output.{base_of}
 use Rattle.numbers.proofs.Residue.{residue_first, residue_next}
-use Rattle.outputs.specs.Steps.{at}
 use Rattle.outputs.proofs.Laws.{times}
 use native.Mathlib.Nat.{mul-le-mul}
 use Rattle.outputs.proofs.base.Goals as goal

@@ -1,8 +1,7 @@
 use borrow.Author.Rules.{rules}
 use native.Mathlib.Omega.{arith}
-use Prim.Native.Nat.{◌-◌, ◌<◌}
+use Prim.Native.Nat.{◌<◌}
 use mathlib.Core.Path.{◌≡◌}
-use Rattle.outputs.specs.Steps.{at}
 use Rattle.outputs.proofs.Laws.{split_first, split_next, split_lo, split_hi, split_done}
 use Rattle.outputs.proofs.output.Goals as goal
 

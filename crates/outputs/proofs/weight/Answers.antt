@@ -1,8 +1,6 @@
 use borrow.Author.Rules.{rules}
 use native.Mathlib.Omega.{arith}
-use Prim.Native.Nat.{◌-◌}
 use mathlib.Core.Path.{◌≡◌}
-use Rattle.outputs.specs.Steps.{at}
 use Rattle.outputs.proofs.Laws.{cell-lt, weight_done, split_first, split_next, split_lo, split_hi}
 use Rattle.outputs.proofs.weight.Goals as goal
 

@@ -1,7 +1,6 @@
 use borrow.Author.Rules.{rules}
 use native.Mathlib.Omega.{arith}
 use mathlib.Core.Path.{refl}
-use Prim.Native.Nat.{◌-◌}
 use Rattle.lists.specs.Tab.{start, more, counted}
 use Rattle.outputs.proofs.weights.Goals as goal
 

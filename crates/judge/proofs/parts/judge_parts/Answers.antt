@@ -129,7 +129,7 @@ returns-clause-value c =
     stands_of a.k c.depth-depth.result a.entries.now a.p1.now a.p2.now a.p3.now a.p4.now a.p5.now a.p6.now a.p7.now c.depth-depth.ensures good) in
     let walked : Walked (key_with c.args.k c.args.entries.now) (parts_from c.args.p1.now c.args.p2.now c.args.p3.now c.args.p4.now c.args.p5.now c.args.p6.now c.args.p7.now) c.walk-code.result c.args.lists.now c.walk-code.new.lists = (c.walk-code.ensures.walked (key_with c.args.k c.args.entries.now) (parts_from c.args.p1.now c.args.p2.now c.args.p3.now c.args.p4.now c.args.p5.now c.args.p6.now c.args.p7.now) stands) in
     hash_verdict (key_with c.args.k c.args.entries.now) (parts_from c.args.p1.now c.args.p2.now c.args.p3.now c.args.p4.now c.args.p5.now c.args.p6.now c.args.p7.now) good walked (16 * c.args.k.opened + 32 * (c.args.k.executions - c.args.k.opened)) refl
-          c.if-code-ne0.false c.list_code.ensures
+    c.if-code-ne0.false c.list_code.ensures
 
 pub returns-clause-listed : goal.returns-clause-listed
 returns-clause-listed c =

@@ -53,8 +53,8 @@ put_numbers-requires-clause-out_len c =
     let a = c.args in
     let p = c.requires in
     third_long a.out.now c.open_all_but.new.out c.copy.new.out (16 * a.depth) 32 _
-                (c.open_all_but.auto.out ∙ length-take-le (16 * a.depth) a.out.now (omega (arith, p.out_len)))
-                (omega (arith, c.copy.auto.out, c.open_all_but.auto.out, c.requires.out_len)) p.out_len
+    (c.open_all_but.auto.out ∙ length-take-le (16 * a.depth) a.out.now (omega (arith, p.out_len)))
+    (omega (arith, c.copy.auto.out, c.open_all_but.auto.out, c.requires.out_len)) p.out_len
 
 pub returns : goal.returns
 unfolding reply_of

@@ -1,5 +1,4 @@
 use mathlib.Core.Path.{refl, sym, ◌∙◌}
-use Prim.Native.Nat.{◌-◌}
 use Rattle.lists.specs.Tab.{start, more, done, list_is_tab}
 use borrow.Author.Rules.{rules}
 use Rattle.views.proofs.parties.digest.Goals as goal

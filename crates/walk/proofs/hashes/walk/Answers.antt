@@ -141,8 +141,8 @@ pub returns-clause-walked : goal.returns-clause-walked
 returns-clause-walked c =
     let inv = c.loop-e.invariant in
     (λ K P so.
-          walk_ends K P so.executions (ap₂ (λ x y. x - y) so.executions so.openings) (good_e_lem so) (inv.1 K P so)
-          (omega (arith, inv.0, c.loop-e-test.false)) (inv.2 ∙ c.requires.lists_len))
+    walk_ends K P so.executions (ap₂ (λ x y. x - y) so.executions so.openings) (good_e_lem so) (inv.1 K P so)
+    (omega (arith, inv.0, c.loop-e-test.false)) (inv.2 ∙ c.requires.lists_len))
 
 pub returns-clause-lists_len_unchanged : goal.returns-clause-lists_len_unchanged
 returns-clause-lists_len_unchanged c =

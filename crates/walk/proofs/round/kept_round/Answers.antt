@@ -152,5 +152,5 @@ returns-clause-stepped c =
     let h = c.hidden_party-hidden.ensures in
     let z = ap (λ x. a.at + x) c.reply_length.ensures in
     (λ K P so.
-          kept_step so (p.reached K P so) p.e_lt_executions p.e_value h z
-          (c.kept_execution-v.ensures.evaluates K P (kept_in so (p.reached K P so) p.e_lt_executions p.e_value h z)) c.omega_good-good.ensures c.kept_code-code.ensures)
+    kept_step so (p.reached K P so) p.e_lt_executions p.e_value h z
+    (c.kept_execution-v.ensures.evaluates K P (kept_in so (p.reached K P so) p.e_lt_executions p.e_value h z)) c.omega_good-good.ensures c.kept_code-code.ensures)
