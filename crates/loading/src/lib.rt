@@ -9,19 +9,31 @@ use std::io::Read;
 use std::rt::Files;
 use std::{fs, io};
 
-// The next bytes of an input in front of a list, until the list is full, the input ends or a read fails; returns how many they are.
+// The next bytes of an input in front of a list; returns how many they are, 0 at the input's end and where the read fails.
+fn read_some<R: Read>(input: &mut R, out: &mut [u8]) -> usize
+    ensures in_bounds { (result ≤ length out.new) × (result ≡ length (take result out.new)) }
+    ensures bytes { Consumes (R.remaining input.old) (R.remaining input.new) (take result out.new) }
+{
+    match input.read(out) {
+        Ok(n) => n,
+        Err(_) => 0,
+    }
+}
+
+// The next bytes of an input in front of a list, until it is full, the input ends or a read fails; returns how many they are. A full list ends
+// it by a read of no bytes: clang takes a read into a list that it knows not to be empty for one that never answers 0.
 fn fill<R: Read>(input: &mut R, out: &mut [u8]) -> usize
     ensures in_bounds { (result ≤ length out.new) × (result ≡ length (take result out.new)) }
     ensures bytes { Consumes (R.remaining input.old) (R.remaining input.new) (take result out.new) }
 {
     let mut done = 0;
-    while done < out.len() {
-        match input.read(&mut out[done..]) {
-            Ok(0) | Err(_) => break,
-            Ok(n) => done += n,
+    loop {
+        let n = read_some(input, &mut out[done..]);
+        if n == 0 {
+            return done;
         }
+        done += n;
     }
-    done
 }
 
 // The file's bytes in front of a list, as many as fit: how many they are, or why the file cannot be opened.

@@ -16,6 +16,6 @@ take-put_mid_part a k n xs ys within fits =
 pub loop-done-preserved : goal.loop-done-preserved
 loop-done-preserved g c =
     let inv = c.loop-done.invariant in
-    let read = c.in-Ok.ensures in
-    let joined = take-put_mid_part c.loop-done.done (length c.loop-done.out - c.loop-done.done) c.in-Ok.n c.loop-done.out c.read.new.buf inv.1 read.bound.0 in
-    (search rules, search rules, subst (Consumes _ _) (sym joined) (Consumes-trans _ _ _ _ _ inv.2 read.bytes.0))
+    let read = c.read_some-n in
+    let joined = take-put_mid_part c.loop-done.done (length c.loop-done.out - c.loop-done.done) read.result c.loop-done.out read.new.out inv.1 read.ensures.in_bounds.0 in
+    (search rules, search rules, subst (Consumes _ _) (sym joined) (Consumes-trans _ _ _ _ _ inv.2 read.ensures.bytes))
