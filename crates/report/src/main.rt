@@ -4,9 +4,18 @@
 
 ghost use Rattle.std.specs.Prelude.{◌≤◌, ◌≡◌, length, take};
 ghost use Rattle.report.specs.Judged.{Judged};
+ghost use Rattle.std.specs.Io.{ReadsAtMost};
 
-use loading::load;
 use std::rt::Files;
+use std::{fs, io};
+
+// The file's bytes in front of a list, as many as fit: how many they are, or why the file cannot be opened.
+fn load<R: Files>(files: &R, path: &str, out: &mut [u8]) -> io::Result<usize>
+    ensures { ReadsAtMost result out.new }
+{
+    let mut file = fs::open(files, path)?;
+    Ok(loading::fill(&mut file, out))
+}
 
 // The judge's numbers for the runs before the first that cannot be opened; returns how many they are.
 fn judge_runs<R: Files>(files: &R, key: &[u8], run: &mut [u8], verdicts: &mut [u32]) -> usize

@@ -2,7 +2,18 @@
 // file is an empty one.
 #![tactic(auto)]
 
-use loading::load;
+ghost use Rattle.std.specs.Io.{ReadsAtMost};
+
+use std::rt::Files;
+use std::{fs, io};
+
+// The file's bytes in front of a list, as many as fit: how many they are, or why the file cannot be opened.
+fn load<R: Files>(files: &R, path: &str, out: &mut [u8]) -> io::Result<usize>
+    ensures { ReadsAtMost result out.new }
+{
+    let mut file = fs::open(files, path)?;
+    Ok(loading::fill(&mut file, out))
+}
 
 fn main(rt: HostRuntime) {
     let mut key = [0u8; 65536];
