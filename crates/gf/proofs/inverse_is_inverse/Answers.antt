@@ -1,4 +1,4 @@
--- `gf::inverse_is_inverse` states the laws of `specs/Inverse.antt`. Assumes nothing.
+-- `gf::inverse_is_inverse` states the laws of `proofs/Inverse.antt`. Assumes nothing.
 use Rattle.gf.proofs.Inverse.{inverse_of_lem, inverse_byte, inverse_zero}
 use Rattle.gf.proofs.inverse_is_inverse.Goals as goal
 
