@@ -26,7 +26,7 @@ REFERENCE = $(addprefix reference/,sha256.c aes128.c streams.c key.c tree.c exec
 HEADERS = $(wildcard include/*.h reference/*.h tests/c/*.h)
 LIBBADGE = target/staticlib/libbadge.a
 LIBPRIMITIVES = target/staticlib/libprimitives.a
-PROVED := crates.txt $(shell find crates -name must-fail -prune -o -print)
+PROVED := crates.txt $(shell find crates/*/src crates/*/specs crates/*/proofs)
 
 .PHONY: test checks runs tests tidy claims gate-check pin reference definitions spoiled primitives calls shared-vectors beside program compare campaign weak stack bench lib bin demo clean
 .SECONDARY:
@@ -66,19 +66,19 @@ definitions: $(BUILD)/libreference.so
 $(BUILD):
 	mkdir -p $(BUILD)
 
-# The proved library, and variants of it for tests.
+# The proved library, and variants of it for tests: the static library of crate badge_c, and that of crate primitives.
 
-target/staticlib/lib%.a: $(PROVED)
-	mkdir -p target
-	rt staticlib $* > target/staticlib-$*.log 2>&1 || { cat target/staticlib-$*.log; exit 1; }
-	test -s $@ && touch $@
+$(LIBBADGE): CRATE = badge_c
+$(LIBPRIMITIVES): CRATE = primitives
+target/staticlib/lib%.a: $(PROVED) tools/build.py
+	python3 tools/build.py $(CRATE) $@
 
 # One rt at a time.
 $(LIBBADGE): | $(LIBPRIMITIVES)
 
 target/variant/badge.bc: $(LIBBADGE) tools/variant.py
 	mkdir -p $(@D)
-	python3 tools/variant.py badge $@
+	python3 tools/variant.py badge_c $@
 
 target/variant/sanitized.a: target/variant/badge.bc
 	python3 tools/variant.py $< $@ sanitized
@@ -159,9 +159,8 @@ beside: $(BUILD)/O2/compare
 
 # The programs. One rt at a time.
 
-target/bin/%: $(PROVED) | $(LIBBADGE)
-	rt check $* > target/$*.log 2>&1 || { cat target/$*.log; exit 1; }
-	test -x $@ && touch $@
+target/bin/%: $(PROVED) tools/build.py | $(LIBBADGE)
+	python3 tools/build.py $* $@
 
 target/bin/report: | target/bin/verdict
 

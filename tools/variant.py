@@ -5,17 +5,17 @@
     variant.py MODULE.bc OUT.a weak MODULUS       SHA-256's digest is cut: its first byte modulo MODULUS, then 31 zero bytes
     variant.py MODULE.bc OUT.a sanitized          the AddressSanitizer checks each access to memory
 
-The module comes from a build as `rt staticlib CRATE` does it, from the libraries that `rt staticlib CRATE` has proved, over a toolchain
+The module comes from a build as `rt lib` does it for a static library, over the libraries that stand in the crates' folders, by a toolchain
 folder whose clang keeps it. It has a function of each name crate::module::function."""
 import os
 import pathlib
-import platform
 import re
 import shutil
 import subprocess
 import sys
 
-ROOT = pathlib.Path(__file__).resolve().parent.parent
+from build import HOME, archive
+
 CUT = """
 define internal void @"sha::digest"(ptr noundef %a0, ptr noundef %a1) #0 {{
   call void @"sha::whole_digest"(ptr noundef %a0, ptr noundef %a1)
@@ -45,9 +45,7 @@ def sanitized(module):
     return once("attributes #0 = {", "attributes #0 = { sanitize_address", module), ["-fsanitize=address"]
 
 
-HOME = pathlib.Path(os.environ.get("RATTLE_HOME") or pathlib.Path(shutil.which("rt")).resolve().parent.parent)
-OWN = HOME / "on" / platform.machine()
-TOOLS = OWN / "toolchain" / "bin"
+TOOLS = HOME / "toolchain" / "bin"
 
 
 def change(module, out, edit):
@@ -67,8 +65,8 @@ def keeping_toolchain(module):
     folder = pathlib.Path(module + ".toolchain")
     shutil.rmtree(folder, ignore_errors=True)
     (folder / "bin").mkdir(parents=True)
-    (folder / "lib").symlink_to((OWN / "toolchain" / "lib").resolve())
-    for tool in ("ld.lld", "llvm-ar"):
+    (folder / "lib").symlink_to(HOME / "toolchain" / "lib")
+    for tool in ("ld.lld", "llvm-ar", "rattle-x64"):
         (folder / "bin" / tool).symlink_to(TOOLS / tool)
     clang = folder / "bin" / "clang"
     clang.write_text(f"""#!/bin/sh
@@ -80,21 +78,8 @@ exec '{TOOLS}/clang' "$@"
     return folder
 
 
-def keep(crate, module):
-    rlib = ROOT / "target" / "rlib"
-    listed = dict(line.split("#")[0].split(":") for line in (ROOT / "crates.txt").read_text().splitlines() if ":" in line.split("#")[0])
-    words = ["--crate-name", crate, f"crates/{crate}/src/lib.rt", "--extern", f"std={OWN}/rlib/std.rlib"]
-    for d in listed[crate].split():
-        words += ["--extern", f"{d}={rlib if (rlib / (d + '.rlib')).is_dir() else OWN / 'rlib'}/{d}.rlib"]
-    words += ["-L", f"dependency={rlib}", "-L", f"dependency={OWN}/rlib"]
-    words += ["--antt-project", f"{HOME}/logic/antt-project.json", "--logic-built", f"{OWN}/logic-built"]
-    words += ["--toolchain", str(keeping_toolchain(module)), "--crate-type", "staticlib", "-o", module + ".a"]
-    done = subprocess.run([OWN / "bin" / "rattle", "build", *words], cwd=ROOT, capture_output=True, text=True)
-    if done.returncode != 0:
-        sys.exit(done.stdout + done.stderr)
-
-
 if len(sys.argv) == 3:
-    keep(sys.argv[1], os.path.abspath(sys.argv[2]))
+    kept = os.path.abspath(sys.argv[2])
+    archive(sys.argv[1], keeping_toolchain(kept), kept + ".a")
 else:
     change(os.path.abspath(sys.argv[1]), os.path.abspath(sys.argv[2]), sys.argv[3:])
