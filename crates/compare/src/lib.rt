@@ -51,6 +51,7 @@ fn compare_at(
 }
 
 // Party i is hidden in neither.
+#[tactic(auto, using(crate::proofs::Laws::open_two, crate::proofs::Laws::closed_one, crate::proofs::Laws::closed_two))]
 fn open_in_both(hidden1: usize, hidden2: usize, i: usize) -> bool
     ensures { result ≡ open_both hidden1 hidden2 i }
 {
