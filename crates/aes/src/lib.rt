@@ -22,7 +22,7 @@ fn put_word(w: &mut [u8; 176], n: usize, a: u8, b: u8, c: u8, d: u8)
     requires w_len { length w.old ≡ 176 }
     requires n_bound { n < 40 }
     ensures w_len_2 { length w.new ≡ 176 }
-    ensures by_index { (key : List ℕ) → take (16 + 4 * n) w.old ≡ words n key → a ∷ b ∷ c ∷ d ∷ [] ≡ temp w.old (n + 4) → take (16 + 4 * (n + 1)) w.new ≡ words (n + 1) key }
+    ensures next_word { (key : List ℕ) → take (16 + 4 * n) w.old ≡ words n key → a ∷ b ∷ c ∷ d ∷ [] ≡ temp w.old (n + 4) → take (16 + 4 * (n + 1)) w.new ≡ words (n + 1) key }
 {
     let i = 4 * n;
     let k = 16 + i;
@@ -41,7 +41,7 @@ fn plain_word(w: &mut [u8; 176], n: usize)
     requires w_len { length w.old ≡ 176 }
     requires n_bound { (n < 40) × (n % 4 ≡ 0 → ⊥) }
     ensures w_len_2 { length w.new ≡ 176 }
-    ensures by_index { (key : List ℕ) → take (16 + 4 * n) w.old ≡ words n key → take (16 + 4 * (n + 1)) w.new ≡ words (n + 1) key }
+    ensures next_word { (key : List ℕ) → take (16 + 4 * n) w.old ≡ words n key → take (16 + 4 * (n + 1)) w.new ≡ words (n + 1) key }
 {
     let i = n + 4;
     let k = 4 * (i - 1);
@@ -58,7 +58,7 @@ fn turned_word(t: &[u8; 256], w: &mut [u8; 176], n: usize)
     requires w_len { length w.old ≡ 176 }
     requires n_bound { (n < 40) × (n % 4 ≡ 0) }
     ensures w_len_2 { length w.new ≡ 176 }
-    ensures by_index { (key : List ℕ) → take (16 + 4 * n) w.old ≡ words n key → take (16 + 4 * (n + 1)) w.new ≡ words (n + 1) key }
+    ensures next_word { (key : List ℕ) → take (16 + 4 * n) w.old ≡ words n key → take (16 + 4 * (n + 1)) w.new ≡ words (n + 1) key }
 {
     let i = n + 4;
     let k = 4 * (i - 1);

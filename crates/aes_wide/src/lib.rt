@@ -91,7 +91,7 @@ fn sub_shift_row(t: &[u8; 256], s: &[u8; 256], p: usize, r: &mut [u8; 256])
 fn sub_shift_one(t: &[u8; 256], s: &[u8; 256], r: &mut [u8; 256])
     requires t_value { t.now ≡ tab 256 sbox_of }
     requires r_len { length r.old ≡ 256 }
-    requires by_index { (p : ℕ) → p < 15 → Flat s.now p }
+    requires flat { (p : ℕ) → p < 15 → Flat s.now p }
     ensures { Lanes r.new (λ l. shift_rows (sub_bytes (lane s.now l))) }
 {
     sub_shift_first(t, s, r);
@@ -102,7 +102,7 @@ fn sub_shift_one(t: &[u8; 256], s: &[u8; 256], r: &mut [u8; 256])
 fn sub_shift_four(t: &[u8; 256], s: &[u8; 256], r: &mut [u8; 256])
     requires t_value { t.now ≡ tab 256 sbox_of }
     requires r_len { length r.old ≡ 256 }
-    requires by_index { (p : ℕ) → 4 ≤ p → p < 16 → Flat s.now p }
+    requires flat { (p : ℕ) → 4 ≤ p → p < 16 → Flat s.now p }
     ensures { Lanes r.new (λ l. shift_rows (sub_bytes (lane s.now l))) }
 {
     sub_shift_first(t, s, r);

@@ -57,7 +57,7 @@ fn draw_open(
     requires m_le_per { (m ≤ per) × (per ≤ 3 * m) }
     requires i_lt_parties { i < parties }
     requires parties_in_bounds { 3 * m * parties ≤ length work.old }
-    ensures by_index { (n : ℕ) → n ≡ i → Drawn q m parties hidden per leaves.now work.old n → Drawn q m parties hidden per leaves.now work.new (n + 1) }
+    ensures drawn { (n : ℕ) → n ≡ i → Drawn q m parties hidden per leaves.now work.old n → Drawn q m parties hidden per leaves.now work.new (n + 1) }
     ensures work_len_unchanged { length work.new ≡ length work.old }
 {
     if i == hidden {
@@ -93,7 +93,7 @@ pub fn draw_shares(
 // The sum of `count` numbers, `stride` apart.
 pub fn column(work: &[u32], start: usize, stride: usize, count: usize) -> u64
     requires count_bound { (count ≤ 32) × (stride ≤ 384) × (start ≤ 12288) }
-    requires by_index { (i : ℕ) → i < count → stride * i + start < length work.now }
+    requires within { (i : ℕ) → i < count → stride * i + start < length work.now }
     ensures { result ≡ sum count (λ i. get_or work.now (stride * i + start) 0) }
 {
     let mut total: u64 = 0;

@@ -100,7 +100,7 @@ pub fn execution_of(k: Numbers, p2: &[u8], h1: &[u8], h2: &[u8]) -> usize
 pub fn reply_length(k: Numbers, p2: &[u8], p6: &[u8], e: usize) -> usize
     requires limits { Limits k }
     requires e_lt_executions { e < k.executions }
-    requires e_value { opened p2.now e ≡ false }
+    requires e_kept { opened p2.now e ≡ false }
     ensures value { (K : Key) (P : Parts) → Of k K → P.p2 ≡ p2.now → P.p6 ≡ p6.now → result ≡ reply_size K P e }
     ensures upper_bound { result ≤ 1652 }
 {

@@ -29,7 +29,7 @@ pub fn low8(x: u64) -> u8
 
 // `inverse` is the inverse of the field, and takes 0 to 0.
 pub fn inverse_is_inverse()
-    ensures by_index { (a : ℕ) → 0 < a → a < 256 → gmul a (inverse a) ≡ 1 }
-    ensures by_index_2 { (a : ℕ) → a < 256 → inverse a < 256 }
+    ensures inverts { (a : ℕ) → 0 < a → a < 256 → gmul a (inverse a) ≡ 1 }
+    ensures is_byte { (a : ℕ) → a < 256 → inverse a < 256 }
     ensures inverse_value { inverse 0 ≡ 0 }
 {}

@@ -4,7 +4,7 @@
 ghost use Rattle.std.specs.Prelude.{◌≡◌, ◌+◌, ◌*◌, ◌^◌, ◌<◌, ◌≤◌, length};
 ghost use Rattle.lists.specs.Check.{accepted, first};
 ghost use Rattle.numbers.specs.Inverse.{Member, Ns};
-ghost use Rattle.protocol.specs.Key.{entries as entryCount, key_of, key_checks};
+ghost use Rattle.protocol.specs.Key.{entries as entry_count, key_of, key_checks};
 ghost use Rattle.protocol.specs.Prover.{message5, verdict5, output};
 ghost use Rattle.execution.specs.Shown.{Limits};
 ghost use Rattle.prover.specs.Answers.{answer_of};
@@ -180,7 +180,7 @@ fn digest(
     requires inputs { Inputs (key_of key.now) seeds.now secret.now e.now kappa.now }
     requires seed_len { length seed.now ≡ 16 }
     requires key_in_bounds { 4 * (key_of key.now).m * (key_of key.now).N ≤ length work.old }
-    requires key_in_bounds_2 { entryCount (key_of key.now) ≤ length entries.old }
+    requires key_in_bounds_2 { entry_count (key_of key.now) ≤ length entries.old }
     ensures { result ≡ message5 (key_of key.now) seeds.now secret.now e.now kappa.now seed.now }
 {
     let k = key::numbers_of(key);

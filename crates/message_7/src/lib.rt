@@ -3,7 +3,7 @@
 
 ghost use Rattle.std.specs.Prelude.{◌≡◌, true, ◌++◌, ◌+◌, ◌*◌, ◌-◌, ◌<◌, ◌≤◌, length, get_or, drop};
 ghost use Rattle.lists.specs.Check.{accepted, first};
-ghost use Rattle.protocol.specs.Key.{key_of, key_checks, entries as entriesOf};
+ghost use Rattle.protocol.specs.Key.{key_of, key_checks, entries as entries_of};
 ghost use Rattle.protocol.specs.Prover.{message7, verdict7, output, good_hidden};
 ghost use Rattle.key.specs.Numbers.{Limits, Depth};
 ghost use Rattle.prover.specs.Answers.{answer_of};
@@ -176,7 +176,7 @@ fn write(
     requires inputs { Inputs (key_of key.now) seeds.now secret.now e.now kappa.now }
     requires seed_len { length seed.now ≡ 16 }
     requires hidden_value { good_hidden (key_of key.now) hidden.now ≡ true }
-    requires key_in_bounds { entriesOf (key_of key.now) ≤ length entries.old }
+    requires key_in_bounds { entries_of (key_of key.now) ≤ length entries.old }
     requires key_in_bounds_2 { 4 * (key_of key.now).m * (key_of key.now).N ≤ length work.old }
     requires hidden_in_bounds { length (message7 (key_of key.now) seeds.now secret.now e.now kappa.now seed.now hidden.now) ≤ length out.old }
     ensures value { result ≡ length (message7 (key_of key.now) seeds.now secret.now e.now kappa.now seed.now hidden.now) }

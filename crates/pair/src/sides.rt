@@ -30,7 +30,7 @@ fn open_both(
     requires limits { Limits k }
     requires sound { Sound k entries.now run1.now e hidden1 }
     requires sound_2 { Sound k entries.now run2.now e hidden2 }
-    requires fact { hidden1 ≡ hidden2 → ⊥ }
+    requires hidden_differ { hidden1 ≡ hidden2 → ⊥ }
     requires m_in_bounds { k.n * (k.m + 1) ≤ length entries.now }
     requires inputs1_len { length inputs1.old ≡ execution_size k.m k.parties }
     requires inputs2_len { length inputs2.old ≡ execution_size k.m k.parties }
@@ -67,7 +67,7 @@ pub fn read_sides(
     requires limits { Limits k }
     requires sound { Sound k entries.now run1.now e hidden1 }
     requires sound_2 { Sound k entries.now run2.now e hidden2 }
-    requires fact { hidden1 ≡ hidden2 → ⊥ }
+    requires hidden_differ { hidden1 ≡ hidden2 → ⊥ }
     requires listed { Listed (key_with k entries.now) (parts_of run1.now) lists1.now }
     requires listed_2 { Listed (key_with k entries.now) (parts_of run2.now) lists2.now }
     requires m_in_bounds { k.n * (k.m + 1) ≤ length entries.now }

@@ -13,8 +13,8 @@ ghost use Rattle.protocol.specs.Fits.{Fits};
 
 // The judge accepts exactly the transcripts that have every fact of `Accepts`.
 pub fn accepted_means()
-    ensures by_index { (key x : List ℕ) → judge key x ≡ accepted → Accepts key x }
-    ensures by_index_2 { (key x : List ℕ) → Accepts key x → judge key x ≡ accepted }
+    ensures then_accepts { (key x : List ℕ) → judge key x ≡ accepted → Accepts key x }
+    ensures if_accepts { (key x : List ℕ) → Accepts key x → judge key x ≡ accepted }
 {}
 
 // For any key, any two transcripts and any lent lists, the pair reader gives a finding only if the judge accepts both, parts 1 to 5 are

@@ -113,7 +113,7 @@ fn wrong_square(q: u32, m: usize, sums: &[u32]) -> usize
 fn write_bits(m: usize, sums: &[u32], out: &mut [u8])
     requires m_bound { m ≤ 128 }
     requires sums_len { length sums.now ≡ 3 * m }
-    requires by_index { (j : ℕ) → j < m → s_at m sums.now j ≤ 1 }
+    requires binary { (j : ℕ) → j < m → s_at m sums.now j ≤ 1 }
     requires out_len { length out.old ≡ m }
     ensures { out.new ≡ tab m (s_at m sums.now) }
 {

@@ -5,7 +5,7 @@ ghost use Rattle.lists.specs.Bytes.{nums};
 ghost use Rattle.numbers.specs.Inverse.{Member, Ns};
 ghost use Rattle.protocol.specs.Key.{Key, depth as depth_of};
 ghost use Rattle.protocol.specs.Shares.{View, o};
-ghost use Rattle.protocol.specs.Prover.{reply as replyTo};
+ghost use Rattle.protocol.specs.Prover.{reply as reply_to};
 ghost use Rattle.execution.specs.Shown.{Limits, Seeded};
 ghost use Rattle.execution.specs.Lists.{Reduced};
 ghost use Rattle.execution.specs.Prepared.{last_count};
@@ -199,7 +199,7 @@ fn reply(
     requires parties_in_bounds { 3 * m * parties ≤ length work.now }
     requires reduced { Reduced q m parties parties work.now }
     requires out_len { length out.old ≡ 16 * depth + 32 + 4 * (m + 1 + last_count m parties hidden) }
-    ensures { (K : Key) (v : View) → depth_of K ≡ depth → Held q n m parties execution entries.now work.now K v → Seeded K v leaves.now → out.new ≡ replyTo K v master.now seed.now hidden }
+    ensures { (K : Key) (v : View) → depth_of K ≡ depth → Held q n m parties execution entries.now work.now K v → Seeded K v leaves.now → out.new ≡ reply_to K v master.now seed.now hidden }
 {
     let o = output_of(q, n, m, parties, execution, hidden, seed, entries, work);
     write_reply(

@@ -40,7 +40,7 @@ fn reply_bytes(k: Numbers, e: usize, run: &[u8]) -> usize
     requires limits { Limits k }
     requires headed { Headed k run.now }
     requires e_lt_executions { e < k.executions }
-    requires e_value { opened (parts_of run.now).p2 e ≡ false }
+    requires e_kept { opened (parts_of run.now).p2 e ≡ false }
     ensures value { (K : Key) → Of k K → result ≡ reply_size K (parts_of run.now) e }
     ensures upper_bound { result ≤ 1652 }
 {

@@ -9,7 +9,7 @@ use native.Mathlib.Omega.{arith}
 use borrow.Author.Tests.{ltb-true, ltb-false}
 use lib.Dec.{ltb}
 use lib.ListN.{length, get_or, length-append, length-drop, get_or-append, take, drop, replicate, get_or-replicate, drop_of_length-le}
-use lib.Seq.{take-length, take_at, drop_at, length-take-le, get_or-take, get_or-append-add}
+use lib.Seq.{take_at, drop_at, length-take-le, get_or-take, get_or-append-add}
 use Rattle.lists.specs.Tab.{tab, tab-length, tab-at, tab_ext, list_is_tab, Filling}
 use Rattle.aes.specs.Fips197.{key_expansion, cipher, aes128}
 use Rattle.aes_wide.specs.Wide.{part, Blocks, counter}
@@ -27,9 +27,6 @@ zeros j fits = record { long = refl; within = omega arith; filled = λ k h. get_
 
 pub whole : (n : ℕ) (xs : List ℕ) → length xs ≡ n → tab n (λ k. get_or xs k 0) ≡ xs
 whole n xs long = sym (list_is_tab n xs (λ k. get_or xs k 0) long (λ k h. refl))
-
-pub all_copied : (s d : List ℕ) → length s ≡ length d → take (length s) s ++ drop (length s) d ≡ s
-all_copied s d e = ap₂ (λ x y. x ++ y) (take-length s) (drop_of_length-le d {i = length s} (omega arith)) ∙ append-nil s
 
 -- Two halves of 16 that are lent one after the other.
 pub both_halves : (a b x y z : List ℕ) → x ≡ a → y ≡ b → length x ≡ 16 → length z ≡ 16

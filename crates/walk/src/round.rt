@@ -79,7 +79,7 @@ fn opened_round(
     requires stood { Stood q n m parties executions openings depth entries.now p2.now p3.now p4.now p6.now p7.now }
     requires reached { (K : Key) (P : Parts) → Standing q n m parties executions openings depth entries.now p2.now p3.now p4.now p6.now p7.now K P → Reached e rank at K P }
     requires e_lt_executions { e < executions }
-    requires e_value { opened p2.now e ≡ true }
+    requires e_opened { opened p2.now e ≡ true }
     requires p3_len { length p3.now ≡ 16 * openings + 32 * (executions - openings) + 32 }
     requires parties_in_bounds { 3 * m * parties ≤ length work.old }
     ensures stepped { (K : Key) (P : Parts) → Standing q n m parties executions openings depth entries.now p2.now p3.now p4.now p6.now p7.now K P → Stepped K P e result.code result.h result.pi result.psi result.rank result.at }
@@ -133,7 +133,7 @@ fn kept_round(
     requires stood { Stood q n m parties executions openings depth entries.now p2.now p3.now p4.now p6.now p7.now }
     requires reached { (K : Key) (P : Parts) → Standing q n m parties executions openings depth entries.now p2.now p3.now p4.now p6.now p7.now K P → Reached e rank at K P }
     requires e_lt_executions { e < executions }
-    requires e_value { opened p2.now e ≡ false }
+    requires e_kept { opened p2.now e ≡ false }
     requires p3_len { length p3.now ≡ 16 * openings + 32 * (executions - openings) + 32 }
     requires p4_len { length p4.now ≡ 16 }
     requires m_in_bounds { n * (m + 1) ≤ length entries.now }

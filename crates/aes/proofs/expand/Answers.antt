@@ -24,10 +24,10 @@ loop-r-init c = (search rules, c.loop-i.invariant.1, refl)
 pub loop-r-preserved : goal.loop-r-preserved
 loop-r-preserved c =
     let key = take 16 c.loop-i.w in
-    let a = c.turned_word.ensures.by_index key c.loop-r.invariant.2 in
-    let b = c.plain_word.ensures.by_index key a in
-    let d = c.plain_word-in-loop-r.ensures.by_index key b in
-    (search rules, c.plain_word-in-loop-r-2.ensures.w_len_2, four-words _ key c.loop-r.r (c.plain_word-in-loop-r-2.ensures.by_index key d))
+    let a = c.turned_word.ensures.next_word key c.loop-r.invariant.2 in
+    let b = c.plain_word.ensures.next_word key a in
+    let d = c.plain_word-in-loop-r.ensures.next_word key b in
+    (search rules, c.plain_word-in-loop-r-2.ensures.w_len_2, four-words _ key c.loop-r.r (c.plain_word-in-loop-r-2.ensures.next_word key d))
 
 pub returns : goal.returns
 unfolding key_expansion

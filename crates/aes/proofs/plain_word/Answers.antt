@@ -8,7 +8,7 @@ use Rattle.aes.proofs.plain_word.Goals as goal
 pub returns-clause-w_len_2 : goal.returns-clause-w_len_2
 returns-clause-w_len_2 c = c.put_word.ensures.w_len_2
 
-pub returns-clause-by_index : goal.returns-clause-by_index
-returns-clause-by_index c =
-    λ key so. c.put_word.ensures.by_index key so
+pub returns-clause-next_word : goal.returns-clause-next_word
+returns-clause-next_word c =
+    λ key so. c.put_word.ensures.next_word key so
     (temp_plain c.args.w.now (c.args.n + 4) (λ e. let z : c.args.n % 4 ≡ 0 = omega arith in c.requires.n_bound.1 z))

@@ -7,7 +7,7 @@ use Rattle.aes.proofs.put_word.Goals as goal
 pub returns-clause-w_len_2 : goal.returns-clause-w_len_2
 returns-clause-w_len_2 c = simp length-set c.requires.w_len
 
-pub returns-clause-by_index : goal.returns-clause-by_index
-returns-clause-by_index c =
+pub returns-clause-next_word : goal.returns-clause-next_word
+returns-clause-next_word c =
     let x = c.args.a ∷ c.args.b ∷ c.args.c ∷ c.args.d ∷ [] in
     λ key so temps. next_word c.args.w.now key x c.args.n c.requires.w_len c.requires.n_bound so temps

@@ -4,7 +4,7 @@ use Rattle.aes_wide.proofs.sub_shift_four.Goals as goal
 
 pub returns : goal.returns
 returns c =
-    four-right c.args.s.now _ _ _ _ _ c.requires.by_index c.sub_shift_first.ensures
+    four-right c.args.s.now _ _ _ _ _ c.requires.flat c.sub_shift_first.ensures
     c.sub_shift_row.ensures
     c.sub_shift_row-2.ensures
     c.sub_shift_row-3.ensures

@@ -3,4 +3,4 @@ use Rattle.aes_wide.proofs.Laws.{one_right}
 use Rattle.aes_wide.proofs.sub_shift_one.Goals as goal
 
 pub returns : goal.returns
-returns c = one_right c.args.s.now _ _ c.requires.by_index c.sub_shift_first.ensures c.sub_shift_row.ensures
+returns c = one_right c.args.s.now _ _ c.requires.flat c.sub_shift_first.ensures c.sub_shift_row.ensures

@@ -20,8 +20,8 @@ write_bits-requires-clause-m_bound c = c.requires.limits.m_most
 pub write_bits-requires-clause-sums_len : goal.write_bits-requires-clause-sums_len
 write_bits-requires-clause-sums_len c = c.requires.sums_len
 
-pub write_bits-requires-clause-by_index : goal.write_bits-requires-clause-by_index
-write_bits-requires-clause-by_index c = secret_bits (key_with c.args.k c.args.entries.now) c.args.sums.now (sym c.is_secret.ensures ∙ c.if-is_secret.true)
+pub write_bits-requires-clause-binary : goal.write_bits-requires-clause-binary
+write_bits-requires-clause-binary c = secret_bits (key_with c.args.k c.args.entries.now) c.args.sums.now (sym c.is_secret.ensures ∙ c.if-is_secret.true)
 
 pub write_bits-requires-clause-out_len : goal.write_bits-requires-clause-out_len
 write_bits-requires-clause-out_len c = length-take-le _ c.args.secret.now c.requires.m_in_bounds_2

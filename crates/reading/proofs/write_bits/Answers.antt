@@ -8,7 +8,7 @@ pub loop-j-init : goal.loop-j-init
 loop-j-init c = start _ _ c.requires.out_len
 
 pub overflow_cast-out : goal.overflow_cast-out
-overflow_cast-out c = omega (arith, c.requires.by_index c.loop-j.j c.loop-j-test.true)
+overflow_cast-out c = omega (arith, c.requires.binary c.loop-j.j c.loop-j-test.true)
 
 pub loop-j-preserved : goal.loop-j-preserved
 loop-j-preserved c = more c.loop-j.invariant c.loop-j-test.true refl

@@ -21,8 +21,8 @@ reply_bytes-requires-clause-headed c = headed c.requires.sound
 pub reply_bytes-requires-clause-e_lt_executions : goal.reply_bytes-requires-clause-e_lt_executions
 reply_bytes-requires-clause-e_lt_executions c = c.requires.sound.within
 
-pub reply_bytes-requires-clause-e_value : goal.reply_bytes-requires-clause-e_value
-reply_bytes-requires-clause-e_value c = c.requires.sound.kept
+pub reply_bytes-requires-clause-e_kept : goal.reply_bytes-requires-clause-e_kept
+reply_bytes-requires-clause-e_kept c = c.requires.sound.kept
 
 pub slice_bounds-open_reply-end : goal.slice_bounds-open_reply-end
 slice_bounds-open_reply-end c = reply_in c.requires.sound c.reply_place-at.ensures.value c.reply_bytes.ensures.value

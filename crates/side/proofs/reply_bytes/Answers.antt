@@ -27,8 +27,8 @@ reply_length-requires-clause-limits c = c.requires.limits
 pub reply_length-requires-clause-e_lt_executions : goal.reply_length-requires-clause-e_lt_executions
 reply_length-requires-clause-e_lt_executions c = c.requires.e_lt_executions
 
-pub reply_length-requires-clause-e_value : goal.reply_length-requires-clause-e_value
-reply_length-requires-clause-e_value c = kept_slice _ _ c.requires.headed c.part_start-s1.ensures.1 c.part_start-s2.ensures.1 c.part_start-s5.ensures.1 c.part_start-s6.ensures.1 _ c.requires.e_value
+pub reply_length-requires-clause-e_kept : goal.reply_length-requires-clause-e_kept
+reply_length-requires-clause-e_kept c = kept_slice _ _ c.requires.headed c.part_start-s1.ensures.1 c.part_start-s2.ensures.1 c.part_start-s5.ensures.1 c.part_start-s6.ensures.1 _ c.requires.e_kept
 
 pub returns-clause-value : goal.returns-clause-value
 returns-clause-value c = λ K of. c.reply_length.ensures.value K _ of (second _ _ c.requires.headed c.part_start-s1.ensures.1 c.part_start-s2.ensures.1 c.part_start-s5.ensures.1 c.part_start-s6.ensures.1) (sixth _ _ c.requires.headed c.part_start-s1.ensures.1 c.part_start-s2.ensures.1 c.part_start-s5.ensures.1 c.part_start-s6.ensures.1)

@@ -21,7 +21,7 @@ offset_bounds-work-at c =
     omega (arith, turns)
 
 pub bounds-work-at : goal.bounds-work-at
-bounds-work-at c = rw c.loop.invariant.1 (c.requires.by_index _ c.loop-test.true)
+bounds-work-at c = rw c.loop.invariant.1 (c.requires.within _ c.loop-test.true)
 
 pub overflow_add-total : goal.overflow_add-total
 overflow_add-total c = omega (arith, c.wide-total.ensures.1)

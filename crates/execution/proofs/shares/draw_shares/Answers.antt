@@ -33,7 +33,7 @@ draw_open-requires-clause-parties_in_bounds c =
 pub loop-i-preserved : goal.loop-i-preserved
 loop-i-preserved c =
     let l = c.loop-i in
-    (search rules, c.draw_open.ensures.by_index l.i refl l.invariant.1, c.draw_open.ensures.work_len_unchanged ∙ l.invariant.2)
+    (search rules, c.draw_open.ensures.drawn l.i refl l.invariant.1, c.draw_open.ensures.work_len_unchanged ∙ l.invariant.2)
 
 pub returns-clause-drawn : goal.returns-clause-drawn
 returns-clause-drawn c =

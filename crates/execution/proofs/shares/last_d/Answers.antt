@@ -11,16 +11,16 @@ use Rattle.execution.proofs.shares.last_d.Goals as goal
 pub column-requires-clause-count_bound : goal.column-requires-clause-count_bound
 column-requires-clause-count_bound c = (search rules, omega arith, omega arith)
 
-pub column-requires-clause-by_index : goal.column-requires-clause-by_index
-column-requires-clause-by_index c =
+pub column-requires-clause-within : goal.column-requires-clause-within
+column-requires-clause-within c =
     let a = c.args in
     column_in a.m a.parties a.parties a.k _ (omega arith) (omega arith) c.requires.parties_in_bounds
 
 pub column-requires-2-clause-count_bound : goal.column-requires-2-clause-count_bound
 column-requires-2-clause-count_bound c = (omega arith, omega arith, omega arith)
 
-pub column-requires-2-clause-by_index : goal.column-requires-2-clause-by_index
-column-requires-2-clause-by_index c =
+pub column-requires-2-clause-within : goal.column-requires-2-clause-within
+column-requires-2-clause-within c =
     let a = c.args in
     column_in a.m a.parties _ (a.m + a.k) _ (omega arith) (omega arith) c.requires.parties_in_bounds
 

@@ -85,8 +85,8 @@ read_sides-requires-clause-sound_2 c =
     let y = c.args.run2.now in
     sound_two k c.args.entries.now x y f l
 
-pub read_sides-requires-clause-fact : goal.read_sides-requires-clause-fact
-read_sides-requires-clause-fact c =
+pub read_sides-requires-clause-hidden_differ : goal.read_sides-requires-clause-hidden_differ
+read_sides-requires-clause-hidden_differ c =
     let p = c.requires in
     let k = c.args.k in
     let f = p.forks in

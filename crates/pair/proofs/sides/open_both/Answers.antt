@@ -103,5 +103,5 @@ returns c =
       written2 = two.written;
       joined =
           joined_by K (parts_of c.args.run1.now) (parts_of c.args.run2.now) c.args.e c.args.hidden1 (sym p.sound.hides) p.sound.kept p.sound_2.kept
-          p.sound.below (λ z. p.fact (z ∙ p.sound_2.hides)) _ _ _ _ c.join_open.ensures c.join_party.ensures one.shown two.shown;
+          p.sound.below (λ z. p.hidden_differ (z ∙ p.sound_2.hides)) _ _ _ _ c.join_open.ensures c.join_party.ensures one.shown two.shown;
     }

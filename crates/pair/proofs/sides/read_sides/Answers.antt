@@ -18,10 +18,10 @@ open_both-requires-clause-sound_2 c =
     let p = c.requires in
     p.sound_2
 
-pub open_both-requires-clause-fact : goal.open_both-requires-clause-fact
-open_both-requires-clause-fact c =
+pub open_both-requires-clause-hidden_differ : goal.open_both-requires-clause-hidden_differ
+open_both-requires-clause-hidden_differ c =
     let p = c.requires in
-    p.fact
+    p.hidden_differ
 
 pub open_both-requires-clause-m_in_bounds : goal.open_both-requires-clause-m_in_bounds
 open_both-requires-clause-m_in_bounds c =

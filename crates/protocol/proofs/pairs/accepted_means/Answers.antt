@@ -2,8 +2,8 @@
 use Rattle.protocol.proofs.Facts.{accepts, accepted_by}
 use Rattle.protocol.proofs.pairs.accepted_means.Goals as goal
 
-pub returns-clause-by_index : goal.returns-clause-by_index
-returns-clause-by_index c = accepts
+pub returns-clause-then_accepts : goal.returns-clause-then_accepts
+returns-clause-then_accepts c = accepts
 
-pub returns-clause-by_index_2 : goal.returns-clause-by_index_2
-returns-clause-by_index_2 c = accepted_by
+pub returns-clause-if_accepts : goal.returns-clause-if_accepts
+returns-clause-if_accepts c = accepted_by

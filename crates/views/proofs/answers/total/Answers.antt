@@ -9,8 +9,8 @@ use Rattle.views.proofs.answers.total.Goals as goal
 pub column-requires-clause-count_bound : goal.column-requires-clause-count_bound
 column-requires-clause-count_bound c = (c.requires.count_bound, omega arith, omega arith)
 
-pub column-requires-clause-by_index : goal.column-requires-clause-by_index
-column-requires-clause-by_index c = λ i h. omega (arith, c.requires.count_in_bounds)
+pub column-requires-clause-within : goal.column-requires-clause-within
+column-requires-clause-within c = λ i h. omega (arith, c.requires.count_in_bounds)
 
 pub returns : goal.returns
 returns c =

@@ -9,11 +9,11 @@ use Rattle.walk.proofs.round.kept_round.Goals as goal
 
 pub overflow_sub-place : goal.overflow_sub-place
 overflow_sub-place c =
-    let most : c.args.rank ≤ c.args.e = rank_most c.requires.stood.so (c.requires.reached _ _ c.requires.stood.so) c.requires.e_lt_executions c.requires.e_value in
+    let most : c.args.rank ≤ c.args.e = rank_most c.requires.stood.so (c.requires.reached _ _ c.requires.stood.so) c.requires.e_lt_executions c.requires.e_kept in
     omega (arith, most)
 
 pub hidden_party-hidden-requires : goal.hidden_party-hidden-requires
-hidden_party-hidden-requires c = hidden_least c.requires.stood.so (c.requires.reached _ _ c.requires.stood.so) c.requires.e_lt_executions c.requires.e_value
+hidden_party-hidden-requires c = hidden_least c.requires.stood.so (c.requires.reached _ _ c.requires.stood.so) c.requires.e_lt_executions c.requires.e_kept
 
 pub reply_length-requires-clause-m_bound : goal.reply_length-requires-clause-m_bound
 reply_length-requires-clause-m_bound c = c.requires.within.limits.m_most
@@ -23,17 +23,17 @@ reply_length-requires-clause-depth_bound c = c.requires.within.deep
 
 pub reply_length-requires-clause-hidden_lt_parties : goal.reply_length-requires-clause-hidden_lt_parties
 reply_length-requires-clause-hidden_lt_parties c =
-    let party : c.hidden_party-hidden.result < c.args.parties = hid_below c.requires.stood.so (c.requires.reached _ _ c.requires.stood.so) c.requires.e_lt_executions c.requires.e_value c.hidden_party-hidden.ensures in
+    let party : c.hidden_party-hidden.result < c.args.parties = hid_below c.requires.stood.so (c.requires.reached _ _ c.requires.stood.so) c.requires.e_lt_executions c.requires.e_kept c.hidden_party-hidden.ensures in
     party
 
 pub overflow_add-end : goal.overflow_add-end
 overflow_add-end c =
-    let ends : c.args.at + c.reply_length.result ≤ length c.args.p7.now = end_inside c.requires.stood.so (c.requires.reached _ _ c.requires.stood.so) c.requires.e_lt_executions c.requires.e_value c.hidden_party-hidden.ensures (ap (λ x. c.args.at + x) c.reply_length.ensures) in
+    let ends : c.args.at + c.reply_length.result ≤ length c.args.p7.now = end_inside c.requires.stood.so (c.requires.reached _ _ c.requires.stood.so) c.requires.e_lt_executions c.requires.e_kept c.hidden_party-hidden.ensures (ap (λ x. c.args.at + x) c.reply_length.ensures) in
     omega (arith, ends)
 
 pub slice_bounds-kept_execution-end : goal.slice_bounds-kept_execution-end
 slice_bounds-kept_execution-end c =
-    let ends : c.args.at + c.reply_length.result ≤ length c.args.p7.now = end_inside c.requires.stood.so (c.requires.reached _ _ c.requires.stood.so) c.requires.e_lt_executions c.requires.e_value c.hidden_party-hidden.ensures (ap (λ x. c.args.at + x) c.reply_length.ensures) in
+    let ends : c.args.at + c.reply_length.result ≤ length c.args.p7.now = end_inside c.requires.stood.so (c.requires.reached _ _ c.requires.stood.so) c.requires.e_lt_executions c.requires.e_kept c.hidden_party-hidden.ensures (ap (λ x. c.args.at + x) c.reply_length.ensures) in
     ends
 
 pub slice_bounds-kept_execution-end-2 : goal.slice_bounds-kept_execution-end-2
@@ -71,7 +71,7 @@ kept_execution-v-requires-clause-depth_value c =
 
 pub kept_execution-v-requires-clause-hidden_lt_parties : goal.kept_execution-v-requires-clause-hidden_lt_parties
 kept_execution-v-requires-clause-hidden_lt_parties c =
-    let party : c.hidden_party-hidden.result < c.args.parties = hid_below c.requires.stood.so (c.requires.reached _ _ c.requires.stood.so) c.requires.e_lt_executions c.requires.e_value c.hidden_party-hidden.ensures in
+    let party : c.hidden_party-hidden.result < c.args.parties = hid_below c.requires.stood.so (c.requires.reached _ _ c.requires.stood.so) c.requires.e_lt_executions c.requires.e_kept c.hidden_party-hidden.ensures in
     party
 
 pub kept_execution-v-requires-clause-reply_len : goal.kept_execution-v-requires-clause-reply_len
@@ -79,14 +79,14 @@ kept_execution-v-requires-clause-reply_len c =
     let a = c.args in
     let h = c.hidden_party-hidden.ensures in
     let z = ap (λ x. a.at + x) c.reply_length.ensures in
-    reply-long c.requires.stood.so (c.requires.reached _ _ c.requires.stood.so) c.requires.e_lt_executions c.requires.e_value h z
+    reply-long c.requires.stood.so (c.requires.reached _ _ c.requires.stood.so) c.requires.e_lt_executions c.requires.e_kept h z
 
 pub kept_execution-v-requires-clause-given : goal.kept_execution-v-requires-clause-given
 kept_execution-v-requires-clause-given c =
     let a = c.args in
     let h = c.hidden_party-hidden.ensures in
     let z = ap (λ x. a.at + x) c.reply_length.ensures in
-    given_is c.requires.stood.so (c.requires.reached _ _ c.requires.stood.so) c.requires.e_lt_executions c.requires.e_value h z
+    given_is c.requires.stood.so (c.requires.reached _ _ c.requires.stood.so) c.requires.e_lt_executions c.requires.e_kept h z
 
 pub kept_execution-v-requires-clause-kappa_len : goal.kept_execution-v-requires-clause-kappa_len
 kept_execution-v-requires-clause-kappa_len c =
@@ -116,33 +116,33 @@ kept_execution-v-requires-clause-parties_in_bounds c =
 
 pub overflow_mul-from : goal.overflow_mul-from
 overflow_mul-from c =
-    let low : c.args.e - c.args.rank < c.args.executions - c.args.openings = place_below c.requires.stood.so (c.requires.reached _ _ c.requires.stood.so) c.requires.e_lt_executions c.requires.e_value in
+    let low : c.args.e - c.args.rank < c.args.executions - c.args.openings = place_below c.requires.stood.so (c.requires.reached _ _ c.requires.stood.so) c.requires.e_lt_executions c.requires.e_kept in
     omega (arith, low, c.requires.within.τ_below, c.requires.within.executions_most)
 
 pub overflow_mul-from-2 : goal.overflow_mul-from-2
 overflow_mul-from-2 c =
-    let low : c.args.e - c.args.rank < c.args.executions - c.args.openings = place_below c.requires.stood.so (c.requires.reached _ _ c.requires.stood.so) c.requires.e_lt_executions c.requires.e_value in
+    let low : c.args.e - c.args.rank < c.args.executions - c.args.openings = place_below c.requires.stood.so (c.requires.reached _ _ c.requires.stood.so) c.requires.e_lt_executions c.requires.e_kept in
     omega (arith, low, c.requires.within.τ_below, c.requires.within.executions_most)
 
 pub overflow_add-from : goal.overflow_add-from
 overflow_add-from c =
-    let low : c.args.e - c.args.rank < c.args.executions - c.args.openings = place_below c.requires.stood.so (c.requires.reached _ _ c.requires.stood.so) c.requires.e_lt_executions c.requires.e_value in
+    let low : c.args.e - c.args.rank < c.args.executions - c.args.openings = place_below c.requires.stood.so (c.requires.reached _ _ c.requires.stood.so) c.requires.e_lt_executions c.requires.e_kept in
     omega (arith, low, c.requires.within.τ_below, c.requires.within.executions_most)
 
 pub overflow_add-to : goal.overflow_add-to
 overflow_add-to c =
-    let low : c.args.e - c.args.rank < c.args.executions - c.args.openings = place_below c.requires.stood.so (c.requires.reached _ _ c.requires.stood.so) c.requires.e_lt_executions c.requires.e_value in
+    let low : c.args.e - c.args.rank < c.args.executions - c.args.openings = place_below c.requires.stood.so (c.requires.reached _ _ c.requires.stood.so) c.requires.e_lt_executions c.requires.e_kept in
     omega (arith, low, c.requires.within.τ_below, c.requires.within.executions_most)
 
 pub slice_bounds-omega_good-end : goal.slice_bounds-omega_good-end
 slice_bounds-omega_good-end c =
-    let low : c.args.e - c.args.rank < c.args.executions - c.args.openings = place_below c.requires.stood.so (c.requires.reached _ _ c.requires.stood.so) c.requires.e_lt_executions c.requires.e_value in
+    let low : c.args.e - c.args.rank < c.args.executions - c.args.openings = place_below c.requires.stood.so (c.requires.reached _ _ c.requires.stood.so) c.requires.e_lt_executions c.requires.e_kept in
     let omegas : 16 * c.args.openings + 32 * (c.args.e - c.args.rank) + 32 ≤ length c.args.p3.now = omega (arith, low, c.requires.p3_len) in
     omegas
 
 pub omega_good-good-requires : goal.omega_good-good-requires
 omega_good-good-requires c =
-    let party : c.hidden_party-hidden.result < c.args.parties = hid_below c.requires.stood.so (c.requires.reached _ _ c.requires.stood.so) c.requires.e_lt_executions c.requires.e_value c.hidden_party-hidden.ensures in
+    let party : c.hidden_party-hidden.result < c.args.parties = hid_below c.requires.stood.so (c.requires.reached _ _ c.requires.stood.so) c.requires.e_lt_executions c.requires.e_kept c.hidden_party-hidden.ensures in
     party
 
 pub returns-clause-stepped : goal.returns-clause-stepped
@@ -152,5 +152,5 @@ returns-clause-stepped c =
     let h = c.hidden_party-hidden.ensures in
     let z = ap (λ x. a.at + x) c.reply_length.ensures in
     (λ K P so.
-    kept_step so (p.reached K P so) p.e_lt_executions p.e_value h z
-    (c.kept_execution-v.ensures.evaluates K P (kept_in so (p.reached K P so) p.e_lt_executions p.e_value h z)) c.omega_good-good.ensures c.kept_code-code.ensures)
+    kept_step so (p.reached K P so) p.e_lt_executions p.e_kept h z
+    (c.kept_execution-v.ensures.evaluates K P (kept_in so (p.reached K P so) p.e_lt_executions p.e_kept h z)) c.omega_good-good.ensures c.kept_code-code.ensures)

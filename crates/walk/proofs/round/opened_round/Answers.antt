@@ -10,19 +10,19 @@ use Rattle.walk.proofs.round.opened_round.Goals as goal
 pub overflow_mul-from : goal.overflow_mul-from
 overflow_mul-from c =
     let below : c.args.rank < c.args.openings = (let p = c.requires in
-    rank_below p.stood.so (p.reached _ _ p.stood.so) p.e_lt_executions p.e_value) in
+    rank_below p.stood.so (p.reached _ _ p.stood.so) p.e_lt_executions p.e_opened) in
     omega (arith, below, c.requires.within.τ_below, c.requires.within.executions_most)
 
 pub overflow_add-to : goal.overflow_add-to
 overflow_add-to c =
     let below : c.args.rank < c.args.openings = (let p = c.requires in
-    rank_below p.stood.so (p.reached _ _ p.stood.so) p.e_lt_executions p.e_value) in
+    rank_below p.stood.so (p.reached _ _ p.stood.so) p.e_lt_executions p.e_opened) in
     omega (arith, below, c.requires.within.τ_below, c.requires.within.executions_most)
 
 pub slice_bounds-opened_hash-end : goal.slice_bounds-opened_hash-end
 slice_bounds-opened_hash-end c =
     let below : c.args.rank < c.args.openings = (let p = c.requires in
-    rank_below p.stood.so (p.reached _ _ p.stood.so) p.e_lt_executions p.e_value) in
+    rank_below p.stood.so (p.reached _ _ p.stood.so) p.e_lt_executions p.e_opened) in
     let inside : 16 * c.args.rank + 16 ≤ length c.args.p3.now = omega (arith, below, c.requires.p3_len, c.requires.within.τ_below) in
     inside
 
@@ -49,7 +49,7 @@ opened_hash-h-requires-clause-execution_bound c =
 pub opened_hash-h-requires-clause-master_len : goal.opened_hash-h-requires-clause-master_len
 opened_hash-h-requires-clause-master_len c =
     let below : c.args.rank < c.args.openings = (let p = c.requires in
-    rank_below p.stood.so (p.reached _ _ p.stood.so) p.e_lt_executions p.e_value) in
+    rank_below p.stood.so (p.reached _ _ p.stood.so) p.e_lt_executions p.e_opened) in
     let inside : 16 * c.args.rank + 16 ≤ length c.args.p3.now = omega (arith, below, c.requires.p3_len, c.requires.within.τ_below) in
     let a = c.args in
     slice_long a.p3.now (16 * a.rank) 16 inside
@@ -67,10 +67,10 @@ opened_hash-h-requires-clause-parties_in_bounds c =
 pub overflow_add-result : goal.overflow_add-result
 overflow_add-result c =
     let below : c.args.rank < c.args.openings = (let p = c.requires in
-    rank_below p.stood.so (p.reached _ _ p.stood.so) p.e_lt_executions p.e_value) in
+    rank_below p.stood.so (p.reached _ _ p.stood.so) p.e_lt_executions p.e_opened) in
     omega (arith, below, c.requires.within.τ_below, c.requires.within.executions_most)
 
 pub returns-clause-stepped : goal.returns-clause-stepped
 returns-clause-stepped c =
     let p = c.requires in
-    (λ K P so. opened_step so (p.reached K P so) p.e_lt_executions p.e_value c.opened_hash-h.ensures.opened_hash)
+    (λ K P so. opened_step so (p.reached K P so) p.e_lt_executions p.e_opened c.opened_hash-h.ensures.opened_hash)

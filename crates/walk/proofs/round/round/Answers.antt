@@ -22,8 +22,8 @@ opened_round-requires-clause-e_lt_executions c =
     let p = c.requires in
     p.e_lt_executions
 
-pub opened_round-requires-clause-e_value : goal.opened_round-requires-clause-e_value
-opened_round-requires-clause-e_value c = sym c.is_opened.ensures ∙ c.if-is_opened.true
+pub opened_round-requires-clause-e_opened : goal.opened_round-requires-clause-e_opened
+opened_round-requires-clause-e_opened c = sym c.is_opened.ensures ∙ c.if-is_opened.true
 
 pub opened_round-requires-clause-p3_len : goal.opened_round-requires-clause-p3_len
 opened_round-requires-clause-p3_len c =
@@ -55,8 +55,8 @@ kept_round-requires-clause-e_lt_executions c =
     let p = c.requires in
     p.e_lt_executions
 
-pub kept_round-requires-clause-e_value : goal.kept_round-requires-clause-e_value
-kept_round-requires-clause-e_value c = sym c.is_opened.ensures ∙ c.if-is_opened.false
+pub kept_round-requires-clause-e_kept : goal.kept_round-requires-clause-e_kept
+kept_round-requires-clause-e_kept c = sym c.is_opened.ensures ∙ c.if-is_opened.false
 
 pub kept_round-requires-clause-p3_len : goal.kept_round-requires-clause-p3_len
 kept_round-requires-clause-p3_len c =
