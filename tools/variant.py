@@ -10,9 +10,9 @@ folder whose clang keeps it. It has a function of each name crate::module::funct
 import os
 import pathlib
 import re
-import shutil
 import subprocess
 import sys
+import tempfile
 
 from build import HOME, archive
 
@@ -60,11 +60,9 @@ def change(module, out, edit):
     subprocess.run([TOOLS / "llvm-ar", "rcs", out, thing], check=True)
 
 
-def keeping_toolchain(module):
-    """A copy of the toolchain folder, by links, but for its clang."""
-    folder = pathlib.Path(module + ".toolchain")
-    shutil.rmtree(folder, ignore_errors=True)
-    (folder / "bin").mkdir(parents=True)
+def keeping_toolchain(folder, module):
+    """Makes the folder a copy of the toolchain's, by links, but for its clang."""
+    (folder / "bin").mkdir()
     (folder / "lib").symlink_to(HOME / "toolchain" / "lib")
     for tool in ("ld.lld", "llvm-ar", "rattle-x64"):
         (folder / "bin" / tool).symlink_to(TOOLS / tool)
@@ -75,11 +73,13 @@ for a in "$@"; do case $a in *.bc) cp "$a" '{module}';; esac; done
 exec '{TOOLS}/clang' "$@"
 """)
     clang.chmod(0o755)
-    return folder
 
 
 if len(sys.argv) == 3:
     kept = os.path.abspath(sys.argv[2])
-    archive(sys.argv[1], keeping_toolchain(kept), kept + ".a")
+    # Not in this folder: rt ci refuses a link anywhere in it.
+    with tempfile.TemporaryDirectory() as name:
+        keeping_toolchain(pathlib.Path(name), kept)
+        archive(sys.argv[1], name, kept + ".a")
 else:
     change(os.path.abspath(sys.argv[1]), os.path.abspath(sys.argv[2]), sys.argv[3:])
