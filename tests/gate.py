@@ -76,7 +76,7 @@ seen_anew("a: ≡ below the functions", "gives ◌≡◌ another meaning", CALLS
 for label, binder in (("a product", "(◌≡◌ : ℕ → ℕ → Type 0) → "), ("a function", "λ ◌≡◌. "), ("a let", "let ◌≡◌ = differ in ")):
     seen_anew(f"a: ≡ bound by {label} in a contract", "binds ◌≡◌", CALLS, put(r"^(    ensures \w+) \{ ", rf"\1 {{ {binder}"))
 for word in ("length", "result"):
-    seen_anew(f"a: a parameter hides {word}", f"binds {word}", "crates/badge/src/lent.rt", put(r"\bkey: &", f"{word}: &"))
+    seen_anew(f"a: a parameter hides {word}", f"binds {word}", "crates/badge/src/messages.rt", put(r"\bkey: &", f"{word}: &"))
 for label, more, message in (
     ("≡ declared in specs/", "\npub ◌≡◌ : ℕ → ℕ → Type 0\n◌≡◌ x y = Unit\n", "declares ◌≡◌"),
     ("length declared in specs/", "\nabbrev pub length {ℓ} : {A : Type ℓ} → List A → ℕ\nlength xs = 0\n", "declares length"),
@@ -107,8 +107,7 @@ for label, clause in (("`requires`", "requires { key.now ≡ run.now }"), ("a st
     seen_anew(f"c: a C function with {label}", "badge_c::badge_judge is an entry point", CALLS, put(JUDGED, rf"\1    {clause}\n    ensures"))
 for path, name in (("crates/judge/src/run.rt", "judge::run::judge"), ("crates/badge/src/lib.rt", "badge::badge_judge")):
     seen_anew(f"c: an entry point with `requires`: {name}", f"{name} is an entry point", path, put(JUDGED, r"\1    requires { key.now ≡ run.now }\n    ensures"))
-seen_anew("c: a file that nothing proves", "that no `mod` line names", "crates/badge/src/lib.rt", drop(r"^pub mod lent;\n"))
-seen_anew("c: a C function with a contract of its own", "badge_c::badge_judge has another contract", CALLS, put(r"result ≡ number_of \(judge ", "0 ≡ number_of (judge "))
+seen_anew("c: a file that nothing proves", "that no `mod` line names", "crates/badge/src/lib.rt", drop(r"^pub mod messages;\n"))
 change("c: another contract", "contract badge_c::badge_judge has changed", CALLS, put(r"result ≡ number_of \(judge ", "0 ≡ number_of (judge "))
 
 # d. The claims.

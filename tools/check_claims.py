@@ -8,8 +8,7 @@
   of the listed crates, and files, crates, C calls and make targets that exist; README.md lists every crate and every file of definitions
   that the claims rest on.
 - README.md's table and the header have each number of crates/refusals/src/lib.rt with its name and meaning, and the vectors each number.
-- The headers declare exactly the functions that C calls, each with its parameters' names, order and types. Each of crate badge_c has the
-  contract of the function of crate badge that has its name.
+- The headers declare exactly the functions that C calls, each with its parameters' names, order and types.
 - The words of contracts and definitions mean what the kit says (tools/words.py).
 - No other page claims anything, and no file stands in for one that make, Python or a reviewer reads.
 - What the claims rest on is as it was reviewed (tools/pins.py, tools/pinned.txt)."""
@@ -24,7 +23,7 @@ import words
 from repo import ROOT, expect, functions, listed, name_of, read
 
 PAGES = ["docs/CLAIMS.md", "README.md"]
-KNOWN_PAGES = ["README.md", "docs/CLAIMS.md", "docs/DECISIONS.md", "docs/PORT.md", "reference/README.md", "tests/vectors/README.md"]
+KNOWN_PAGES = ["README.md", "docs/CLAIMS.md", "docs/DECISIONS.md", "docs/DESIGN-PASS.md", "docs/PORT.md", "reference/README.md", "tests/vectors/README.md"]
 BUILT = ("target/", "dist/", "reference/build")
 TABLE_START, TABLE_END = "<!-- numbers -->\n", "<!-- end of numbers -->\n"
 ENTRIES = ["judge::run::judge", "pair::reader::pair", *(f"message_{n}::message_{n}" for n in (1, 3, 5, 7))]
@@ -50,23 +49,12 @@ def called_from_c(name):
     return re.match(r"badge::(\w+::)*badge_", name)
 
 
-def plain(function):
-    """The function's text without what gives it to C."""
-    return re.sub(r'#\[[^\]]*\]|extern "C" |,\s*(?=\))|\s', "", function.text)
-
-
-def check_calls(found):
-    inner = {name.split("::")[-1]: plain(function) for name, function in found.items() if called_from_c(name)}
-    for name, function in found.items():
-        if name.startswith("badge_c::"):
-            expect(inner.get(function.name) == plain(function), f"{name} has another contract than the call of crate badge that has its name")
-
-
 def check_functions(found):
     named = named_functions("docs/CLAIMS.md")
     for name, function in found.items():
         called = (function.file.name, function.name) != ("main.rt", "main")
-        expect(function.has("ensures") or not called, f"{name} has no `ensures`: whoever calls it learns nothing")
+        of_trait = (function.trait, function.name) in (("Display", "fmt"), ("Default", "default"))     # the trait's own clauses hold of these
+        expect(function.has("ensures") or of_trait or not called, f"{name} has no `ensures`: whoever calls it learns nothing")
         entry = function.is_for_c() or name in ENTRIES or called_from_c(name) or (name in named and not function.parameters())
         expect(not (entry and function.has("requires")), f"{name} is an entry point and has a `requires`")
     for name in ENTRIES:
@@ -162,11 +150,13 @@ def check_headers(found):
 def numbers():
     """Rows of number, name, where it is given and when, as crates/refusals/src/lib.rt says."""
     rows, where, comments = [], "", []
-    for line in read("crates/refusals/src/lib.rt").splitlines():
-        constant = re.match(r"pub const (\w+): u32 = (\d+);", line)
-        if constant:
+    body = re.search(r"^pub enum Refusal \{\n(.*?)^\}", read("crates/refusals/src/lib.rt"), re.M | re.S).group(1)
+    for line in map(str.strip, body.splitlines()):
+        variant = re.match(r"(\w+) = (\d+),", line)
+        if variant:
             where = comments[-2] if len(comments) > 1 else where
-            rows.append((int(constant.group(2)), constant.group(1), where, comments[-1]))
+            name = re.sub(r"(?<=[a-z])(?=[A-Z])|(?<=^H)(?=[A-Z])", "_", variant.group(1)).upper()
+            rows.append((int(variant.group(2)), name, where, comments[-1]))
             comments = []
         elif line.startswith("// "):
             comments.append(line[3:].rstrip("."))
@@ -218,7 +208,6 @@ def main():
     check_trusted()
     check_crates()
     check_commands()
-    check_calls(found)
     check_headers(found)
     check_numbers()
     check_vectors()

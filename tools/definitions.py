@@ -100,7 +100,7 @@ a = definitions(
 sheets = definitions(("lists/specs/Index",), ("line/specs/Line",), ("sheet/specs/Sheet",),
                      ("sheet/specs/Counted", "longer", "lines_of", "how_many", "says_accepted", "says_refused", "value_of", "is_digit", "are_digits",
                       "is_count"))
-answers = definitions(("lists/specs/Check",), ("prover/src/lib.rt", "Answer"), ("prover/specs/Answers",), ("answer/specs/Codes", "code_of"))
+answers = definitions(("lists/specs/Check",), ("prover/specs/Answers", "answer_of"), ("answer/specs/Codes", "code_of"))
 
 
 def hexes(text):

@@ -45,28 +45,31 @@ def taken(file):
                 yield m.group(1), m.group(2), name, here
 
 
-def words(function):
-    """The words of a contract that come from specifications of the listed crates."""
-    tokens = set(re.findall(r"[^\s(){},;.]+", function.text))
-    return sorted(x for x in taken(function.file) if tokens.issuperset(part for part in x[3].split("◌") if part))
+def words(text, file):
+    """The words of a text, a contract's or a type's, that come from specifications of the listed crates."""
+    tokens = set(re.findall(r"[^\s(){},;.]+", text))
+    return sorted(x for x in taken(file) if tokens.issuperset(part for part in x[3].split("◌") if part))
 
 
 def contract(function):
     """The function's text but for what helps its proof, and where its words come from."""
     text = re.sub(r"^#\[tactic\(.*\)\]\n", "", function.text, flags=re.M)
-    sources = (f"  {here}: {crate} {module}{'' if name == here else ' ' + name}\n" for crate, module, name, here in words(function))
+    sources = (f"  {here}: {crate} {module}{'' if name == here else ' ' + name}\n" for crate, module, name, here in words(function.text, function.file))
     return text + "".join(sources)
 
 
 def reached(named):
     """The files of definitions and the types that the contracts' words come from, followed through the files' own `use` lines."""
-    todo = [x[:2] for function in named for x in words(function)]
+    todo = [x[:2] for function in named for x in words(function.text, function.file)]
     found, types = set(), set()
     while todo:
         crate, module = todo.pop()
         file = ROOT / "crates" / crate / "specs" / (module.replace(".", "/") + ".antt")
         if module.startswith("declared."):
-            types.add((crate, next(x for x in module.split(".") if x[0].isupper())))
+            kind = crate, next(x for x in module.split(".") if x[0].isupper())
+            if kind not in types:
+                types.add(kind)
+                todo += [x[:2] for x in words(*declared(*kind))]
         elif not file.exists():
             expect(False, f"a definition of {name_of(file)} is taken, and the file is not there")
         elif file not in found:
@@ -78,13 +81,14 @@ def reached(named):
 
 
 def declared(crate, name):
-    """The text of a type that the crate's code declares."""
-    found = [m.group(0) for file in sorted((ROOT / "crates" / crate / "src").rglob("*.rt"))
+    """The text of a type that the crate's code declares, with the facts that hold of it, and its file."""
+    root = ROOT / "crates" / crate / "src"
+    found = [(m.group(0), file) for file in sorted(root.rglob("*.rt"))
              for m in re.finditer(rf"^pub (?:struct|enum) {name}\b.*?^\}}", file.read_text(), re.M | re.S)]
     if len(found) == 1:
         return found[0]
     expect(False, f"the type {name} of crate {crate} is not there once")
-    return "not found"
+    return "not found", root / "lib.rt"
 
 
 def chosen(named):
@@ -105,7 +109,7 @@ def pinned_contracts(named):
     definitions, types = reached(contracts.values())
     yield from ((f"contract {n}", contract(f)) for n, f in contracts.items())
     yield from ((f"uses {name_of(x)}", "\n".join(use_lines(x))) for x in sorted({f.file for f in contracts.values()}))
-    yield from ((f"type {crate}::{name}", declared(crate, name)) for crate, name in types)
+    yield from ((f"type {crate}::{name}", declared(crate, name)[0]) for crate, name in types)
     yield from ((f"definitions {name_of(x)}", digest(x.read_bytes())) for x in definitions)
 
 

@@ -9,6 +9,8 @@ import re
 ROOT = pathlib.Path(__file__).resolve().parent.parent
 COMMENT = {".rt": re.compile(r"^[ \t]*//[^\n]*$", re.M), ".antt": re.compile(r"^[ \t]*--(?: [^\n]*)?$", re.M)}
 TOKEN = r"[^\s(){}\[\].;,]+|\[\]"
+GHOST_FIELD = re.compile(r"^[ \t]+(?:pub )?ghost \w+(?:: (?=.*\},$)| = (?=.*\};$))\{", re.M)     # a fact of a type, or a member that a trait asks for
+IMPL = re.compile(r"^impl(?:<[^{]*?>)? (?:([\w:]+)(?:<[^{]*?>)? for )?(\w+)[^{]*\{", re.M)
 GHOST_USE = re.compile(r"\bghost\s+use\s+([^\s{};]+)\.\{([^{};]*)\}\s*;")
 CODE_USE = re.compile(r"^[ \t]*(?:pub\s+)?use\s+[\w:]+(?:::\{[\w:,\s]*\})?(?:\s+as\s+\w+)?\s*;", re.M)
 SPEC_USE = re.compile(r"^[ \t]*(?:unfoldable\s+)?(?:pub\s+)?use\s+([^\s{}]+?)(?:\.\{([^{}]*)\}|\s+as\s+(\S+))[ \t]*$", re.M)
@@ -67,6 +69,7 @@ class Function:
     name: str
     text: str       # from the attributes to the body, as it stands in the file
     code: str       # the same without comments
+    trait: str = ""     # of which it is a method, if it is one
 
     def is_for_c(self):
         return re.search(r'\bextern\s*"C"|\bno_mangle\b', self.code)
@@ -114,17 +117,26 @@ def module_path(file):
     return "::".join([crate] + [x for x in inner if x not in ("lib", "main", "mod")])
 
 
+def owner(text, at):
+    """The type and the trait of the block of methods that a function at that place stands in."""
+    for m in IMPL.finditer(text):
+        if m.end() <= at < closing(text, m.end() - 1):
+            return m.group(2), (m.group(1) or "").split("::")[-1]
+    return "", ""
+
+
 @functools.cache
 def functions():
-    """The functions of the listed crates, by crate::module::name."""
+    """The functions of the listed crates, by crate::module::name; a method by crate::module::type::name, one of a trait with the trait before its name."""
     found = {}
     for file in files("src", ".rt"):
         text = code(file)
         for m in re.finditer(r"\bfn\s+(\w+)", text):
-            name = f"{module_path(file)}::{m.group(1)}"
+            kind, trait = owner(text, m.start())
+            name = "::".join(x for x in (module_path(file), kind, trait, m.group(1)) if x)
             expect(name not in found, f"{name_of(file)} has {m.group(1)} twice")
             start, end = text_start(text, m.start()), body_start(text, m.end())
-            found[name] = Function(file, m.group(1), file.read_text()[start:end].rstrip() + "\n", text[start:end])
+            found[name] = Function(file, m.group(1), file.read_text()[start:end].rstrip() + "\n", text[start:end], trait)
     return found
 
 

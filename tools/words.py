@@ -4,7 +4,7 @@ Every `use` line is of a form that these checks read. A word of the kit comes fr
 brings a word so spelled, no file of specs/ declares one, and no contract binds one that its file takes."""
 import re
 
-from repo import CLAUSE, CODE_USE, GHOST_USE, LAWS, OURS, SPEC_USE, TOKEN, closing, code, expect, files, functions, listed, name_of, uses
+from repo import CLAUSE, CODE_USE, GHOST_FIELD, GHOST_USE, LAWS, OURS, SPEC_USE, TOKEN, closing, code, expect, files, functions, listed, name_of, uses
 
 KIT = ("Prim", "mathlib", "native", "lib", "mir", "borrow", "denote", "Rattle", "std", "core")
 STD = "Rattle.std"
@@ -33,7 +33,7 @@ HIDDEN = {".rt": rf"⟦|//|/\*|«|\bb?r#*\"|\bmod\s+\w+\s*\{{|{UNSEEN}", ".antt"
 GIVEN = ("⊥ ¬◌ absurd Dec yes no Unit tt Id Path IsProp IsSet ∥◌∥₁ ∣◌∣₁ ◌×◌ ◌→◌ Type result ⌜◌⌝ ◌∗◌ ◌-∗◌ ∀ₛ ∃ₛ ◌∧ₛ◌ ◌∨ₛ◌ ◌→ₛ◌ ⊤ₛ ⊥ₛ 𝓤 𝓛 "
          "◌>>=◌ ◌>>◌").split()
 # What patterns are made of.
-CONSTRUCTORS = set("zero suc true false [] ∷ inl inr pos yes no tt →".split())
+CONSTRUCTORS = set("zero suc true false [] ∷ inl inr pos yes no tt Some None Ok Err →".split())
 
 SIGNATURE = r"(?=\S)([^(){}.;,:=\n]+?)\s*(?:\{[^}]*\}\s*)?:\s"
 EXPORTED = ("^" + SIGNATURE, r"^[ \t]+(?:(?:unfoldable|abbrev)\s+)*pub\s+" + SIGNATURE)
@@ -109,8 +109,9 @@ def check_comments(file, text):
     expect(not odd, f"{name} has what can hide code from these checks: {odd and odd.group(0)}")
     field = re.search(r"\bstruct\b[^{;]*\{[^}]*\b(now|old|new|entry|exit)\s*:", text)
     expect(not field, f"{name} has a field {field and field.group(1)}, which a contract reads like what a reference refers to")
-    expect(len(re.findall(r"\bghost\b", text)) == len(GHOST_USE.findall(text)), f"{name} has a `ghost` that is no `use`")
-    for m in re.finditer(rf"\b{CLAUSE}\{{", text):
+    known = len(GHOST_USE.findall(text)) + len(GHOST_FIELD.findall(text))
+    expect(len(re.findall(r"\bghost\b", text)) == known, f"{name} has a `ghost` that is no `use` and no fact of a type")
+    for m in (*re.finditer(rf"\b{CLAUSE}\{{", text), *GHOST_FIELD.finditer(text)):
         end = closing(text, m.end() - 1)
         expect(whole[m.start():end] == text[m.start():end], f"{name} has a line of comment in a clause, which antt does not read as one")
     marks = len(re.findall(r"\bno_mangle\b|\bextern\b", text))

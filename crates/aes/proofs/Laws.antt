@@ -1,16 +1,10 @@
 -- What the fused rounds and the key schedule need of the definitions, byte by byte.
 -- Assumes nothing.
-use mathlib.Core.Path.{◌≡◌, sym, ap, ◌∙◌, subst}
-use mathlib.Core.List.{List, [], ◌∷◌, ◌++◌, append_assoc}
-use Prim.Native.Nat.{ℕ, suc, ◌+◌, ◌*◌, ◌-◌, ◌/◌, ◌%◌, ◌≤◌, ◌<◌}
-use native.Mathlib.Nat.{add-zero}
-use native.Mathlib.Numerals.{add-one}
-use native.Mathlib.Omega.{arith}
-use borrow.Author.Tests.{eq-eqb, ne_eqb}
-use lib.Bits.{bit_xor, xor_zero_r}
-use lib.ListN.{length, get_or, set, take, length-set}
-use lib.Seq.{take-suc, take-suc-set, get_or-take}
-use Rattle.lists.specs.Tab.{tab, tab-at, tab_ext}
+use Rattle.std.proofs.Common.{◌≡◌, refl, sym, ap, ◌∙◌, List, [], ◌∷◌, ◌++◌, append_assoc, ℕ, zero, suc, ◌+◌, ◌*◌, ◌-◌, ◌/◌, ◌%◌, ◌≤◌, ◌<◌, add-one, subst, arith, length, get_or, take, bit_xor, length-append, eq-eqb, ne_eqb, drop, length-drop, take_at, get_or-take, length-take-le}
+use Rattle.std.specs.Int.Bits.{xor_zero_r}
+use Rattle.std.proofs.Math.ListN.{get_or-append}
+use Rattle.std.proofs.lemmas.List.{get_or-append-add}
+use Rattle.lists.specs.Tab.{tab, tab-at, tab-length, tab_ext, list_is_tab}
 use Rattle.sbox.specs.Sbox.{sbox_of}
 use Rattle.aes.specs.Fips197.{at, sub_bytes, shift_rows, mix_byte, mix_columns, word, xor_word, rot_word, sub_word, x_power, rcon, temp, words}
 
@@ -76,47 +70,34 @@ column s c a b d e h ha hb hd he =
     (hd ∙ sym (sub_shift s (4 * c + 1 + 1) ((4 * c + 10) % 16) (omega arith) (omega arith)))
     (he ∙ sym (sub_shift s (4 * c + 1 + 1 + 1) ((4 * c + 15) % 16) (omega arith) (omega arith)))
 
--- temp of word i, where 4 does not divide i.
-pub temp_plain : (w : List ℕ) (i : ℕ) → (i % 4 ≡ 0 → ⊥)
-    → get_or w (4 * (i - 1)) 0 ∷ get_or w (4 * (i - 1) + 1) 0 ∷ get_or w (4 * (i - 1) + 2) 0 ∷ get_or w (4 * (i - 1) + 3) 0 ∷ [] ≡ temp w i
-unfolding temp word tab
-temp_plain w i h =
-    rw (ne_eqb (i % 4) 0 h)
-    (λ z.
-    get_or w (sym (add-zero (4 * (i - 1))) z) 0 ∷ get_or w (4 * (i - 1) + 1) 0 ∷ get_or w (4 * (i - 1) + 2) 0 ∷ get_or w (4 * (i - 1) + 3) 0 ∷ [])
+-- A word that is turned.
+pub turned_word : (a : List ℕ) (j x0 x1 x2 x3 p : ℕ) → x0 ≡ sbox_of (get_or a 0 0) → x1 ≡ sbox_of (get_or a 1 0) → x2 ≡ sbox_of (get_or a 2 0)
+    → x3 ≡ sbox_of (get_or a 3 0) → p ≡ x_power j → bit_xor x1 p ∷ x2 ∷ x3 ∷ x0 ∷ [] ≡ xor_word (sub_word (rot_word a)) (rcon (j + 1))
+unfolding xor_word sub_word rot_word rcon tab
+turned_word a j x0 x1 x2 x3 p e0 e1 e2 e3 e =
+    let one : j ≡ j + 1 - 1 = omega arith in
+    λ z.
+    bit_xor (e1 z) ((e ∙ ap x_power one) z)
+    ∷ (e2 ∙ sym (xor_zero_r (sbox_of (get_or a 2 0)))) z
+    ∷ (e3 ∙ sym (xor_zero_r (sbox_of (get_or a 3 0)))) z
+    ∷ (e0 ∙ sym (xor_zero_r (sbox_of (get_or a 0 0)))) z
+    ∷ []
 
--- temp of word i, where 4 divides i.
-pub temp_turned : (w : List ℕ) (i a b c d x : ℕ) → i % 4 ≡ 0 → a ≡ sbox_of (get_or w (4 * (i - 1)) 0)
-    → b ≡ sbox_of (get_or w (4 * (i - 1) + 1) 0) → c ≡ sbox_of (get_or w (4 * (i - 1) + 2) 0) → d ≡ sbox_of (get_or w (4 * (i - 1) + 3) 0)
-    → x ≡ x_power (i / 4 - 1) → bit_xor b x ∷ c ∷ d ∷ a ∷ [] ≡ temp w i
-unfolding temp xor_word sub_word rot_word rcon word tab
-temp_turned w i a b c d x h ha hb hc hd hx =
-    rw (eq-eqb (i % 4) 0 h)
-    (λ z.
-    bit_xor (hb z) (hx z)
-    ∷ (hc ∙ sym (xor_zero_r (sbox_of (get_or w (4 * (i - 1) + 2) 0)))) z
-    ∷ (hd ∙ sym (xor_zero_r (sbox_of (get_or w (4 * (i - 1) + 3) 0)))) z
-    ∷ (ha ∙ (λ y. sbox_of (get_or w (sym (add-zero (4 * (i - 1))) y) 0)) ∙ sym (xor_zero_r (sbox_of (get_or w (4 * (i - 1) + 0) 0)))) z
-    ∷ [])
-
--- One more byte of the key is copied.
-pub copied : (w key : List ℕ) (i : ℕ) → i < length w → i < length key → take i w ≡ take i key → take (i + 1) (set w i (get_or key i 0)) ≡ take (i + 1) key
-copied w key i h k e = rw (add-one i, take-suc-set w i (get_or key i 0) h, take-suc key i 0 k, e)
-
-put : (w : List ℕ) (i j v : ℕ) → suc i ≡ j → i < length w → take j (set w i v) ≡ take i w ++ (v ∷ [])
-put w i j v e h = rw (← e) (take-suc-set w i v h)
-
--- Four bytes in a row are stored.
-stored : (w : List ℕ) (k a b c d : ℕ) → k + 4 ≤ length w
-    → take (k + 4) (set (set (set (set w k a) (k + 1) b) (k + 2) c) (k + 3) d) ≡ take k w ++ (a ∷ b ∷ c ∷ d ∷ [])
-stored w k a b c d h =
-    put (set (set (set w k a) (k + 1) b) (k + 2) c) (k + 3) (k + 4) d (omega arith) (simp length-set (omega arith))
-    ∙ ap (λ l. l ++ (d ∷ []))
-    (put (set (set w k a) (k + 1) b) (k + 2) (k + 3) c (omega arith) (simp length-set (omega arith))
-    ∙ ap (λ l. l ++ (c ∷ []))
-    (put (set w k a) (k + 1) (k + 2) b (omega arith) (simp length-set (omega arith))
-    ∙ ap (λ l. l ++ (b ∷ [])) (put w k (k + 1) a (omega arith) (omega arith))))
-    ∙ simp append_assoc
+-- temp of word 4 r + k + 4, from that word that came before it.
+pub temp_is : (w t : List ℕ) (r k : ℕ) → k < 4 → (k ≡ 0 → t ≡ xor_word (sub_word (rot_word (word w (4 * r + 3)))) (rcon (r + 1)))
+    → (0 < k → t ≡ word w (4 * r + k + 3)) → t ≡ temp w (4 * r + k + 4)
+unfolding temp
+temp_is w t r zero h first later =
+    let divides : (4 * r + 0 + 4) % 4 ≡ 0 = omega arith in
+    let before : 4 * r + 3 ≡ 4 * r + 0 + 4 - 1 = omega arith in
+    let count : r + 1 ≡ (4 * r + 0 + 4) / 4 = omega arith in
+    rw (eq-eqb ((4 * r + 0 + 4) % 4) 0 divides)
+    (first refl ∙ (λ z. xor_word (sub_word (rot_word (word w (before z)))) (rcon (count z))))
+temp_is w t r (suc k) h first later =
+    let no : (4 * r + suc k + 4) % 4 ≡ 0 → ⊥ = λ e. omega arith in
+    let before : 4 * r + suc k + 3 ≡ 4 * r + suc k + 4 - 1 = omega arith in
+    rw (ne_eqb ((4 * r + suc k + 4) % 4) 0 no)
+    (later (omega arith) ∙ ap (word w) before)
 
 word-take : (w : List ℕ) (m i : ℕ) → 4 * i + 4 ≤ m → word (take m w) i ≡ word w i
 unfolding word
@@ -127,50 +108,41 @@ temp-take : (w : List ℕ) (m i : ℕ) → 4 * (i - 1) + 4 ≤ m → temp (take 
 unfolding temp
 temp-take w m i h = rw (word-take w m (i - 1) h)
 
-xor_word_lem : (w x : List ℕ) (n : ℕ)
-    → bit_xor (get_or w (4 * n) 0) (get_or x 0 0)
-    ∷ bit_xor (get_or w (4 * n + 1) 0) (get_or x 1 0)
-    ∷ bit_xor (get_or w (4 * n + 2) 0) (get_or x 2 0)
-    ∷ bit_xor (get_or w (4 * n + 3) 0) (get_or x 3 0)
-    ∷ []
-    ≡ xor_word (word w n) x
-unfolding xor_word word tab
-xor_word_lem w x n =
-    λ z.
-    bit_xor (get_or w (sym (add-zero (4 * n)) z) 0) (get_or x 0 0)
-    ∷ bit_xor (get_or w (4 * n + 1) 0) (get_or x 1 0)
-    ∷ bit_xor (get_or w (4 * n + 2) 0) (get_or x 2 0)
-    ∷ bit_xor (get_or w (4 * n + 3) 0) (get_or x 3 0)
-    ∷ []
+-- The key is stored.
+pub key_stored : (key x rest : List ℕ) → x ≡ key → length x ≡ 16 → take (16 + 4 * 0) (x ++ rest) ≡ words 0 key
+unfolding words
+key_stored key x rest same long = take_at x rest 16 long ∙ same
+
+pub stored_long : (w x : List ℕ) (k m : ℕ) → k + m ≤ length w → length x ≡ m → length (take k w ++ (x ++ drop m (drop k w))) ≡ length w
+stored_long w x k m h e = simp (length-append, length-drop) (omega (arith, length-take-le k w (omega arith)))
+
+-- The same, the count of words written another way.
+pub recounted : (w key : List ℕ) (n m : ℕ) → n ≡ m → take (16 + 4 * n) w ≡ words n key → take (16 + 4 * m) w ≡ words m key
+recounted w key n m e so = subst (λ (k : ℕ). take (16 + 4 * k) w ≡ words k key) e so
+
+-- The word that was stored.
+pub word_stored : (w x rest : List ℕ) (n i : ℕ) → 16 + 4 * n ≤ length w → length x ≡ 4 → 4 * i ≡ 16 + 4 * n → x ≡ word (take (16 + 4 * n) w ++ (x ++ rest)) i
+unfolding word
+word_stored w x rest n i long four e =
+    let k = 16 + 4 * n in
+    list_is_tab 4 x (λ j. get_or (take k w ++ (x ++ rest)) (4 * i + j) 0) four
+    (λ j h.
+    let place : 4 * i + j ≡ length (take k w) + j = omega (arith, length-take-le k w long) in
+    sym
+    (ap (λ p. get_or (take k w ++ (x ++ rest)) p 0) place
+    ∙ get_or-append-add (take k w) (x ++ rest) j 0
+    ∙ get_or-append x rest 0 j (omega arith)))
 
 -- One more word of the key schedule is stored.
-pub next_word : (w key x : List ℕ) (n : ℕ) → length w ≡ 176 → n < 40 → take (16 + 4 * n) w ≡ words n key → x ≡ temp w (n + 4)
-    → take (16 + 4 * (n + 1))
-    (set
-    (set
-    (set (set w (16 + 4 * n) (bit_xor (get_or w (4 * n) 0) (get_or x 0 0))) (16 + 4 * n + 1) (bit_xor (get_or w (4 * n + 1) 0) (get_or x 1 0)))
-    (16 + 4 * n + 2)
-    (bit_xor (get_or w (4 * n + 2) 0) (get_or x 2 0)))
-    (16 + 4 * n + 3)
-    (bit_xor (get_or w (4 * n + 3) 0) (get_or x 3 0)))
-    ≡ words (n + 1) key
-unfolding words
-next_word w key x n long h so e =
-    let four : 16 + 4 * (n + 1) ≡ 16 + 4 * n + 4 = omega arith in
-    let last : word (words n key) n ≡ word w n = ap (λ l. word l n) (sym so) ∙ word-take w (16 + 4 * n) n (omega arith) in
-    let temps : temp (words n key) (n + 4) ≡ temp w (n + 4) =
-    ap (λ l. temp l (n + 4)) (sym so) ∙ temp-take w (16 + 4 * n) (n + 4) (omega arith) in
-    rw (four, add-one n)
-    (stored w (16 + 4 * n)
-    (bit_xor (get_or w (4 * n) 0) (get_or x 0 0))
-    (bit_xor (get_or w (4 * n + 1) 0) (get_or x 1 0))
-    (bit_xor (get_or w (4 * n + 2) 0) (get_or x 2 0))
-    (bit_xor (get_or w (4 * n + 3) 0) (get_or x 3 0))
-    (omega arith)
-    ∙ (λ z. so z ++ (xor_word_lem w x n ∙ (λ y. xor_word (sym last y) ((e ∙ sym temps) y))) z))
-
--- Four words more.
-pub four-words : (w key : List ℕ) (r : ℕ) → take (16 + 4 * (4 * r + 1 + 1 + 1 + 1)) w ≡ words (4 * r + 1 + 1 + 1 + 1) key
-    → take (16 + 4 * (4 * (r + 1))) w ≡ words (4 * (r + 1)) key
-four-words w key r so =
-    let four : 4 * r + 1 + 1 + 1 + 1 ≡ 4 * (r + 1) = omega arith in subst (λ (n : ℕ). take (16 + 4 * n) w ≡ words n key) four so
+pub next_word : (w key x rest : List ℕ) (n : ℕ) → 16 + 4 * n ≤ length w → take (16 + 4 * n) w ≡ words n key → x ≡ xor_word (word w n) (temp w (n + 4))
+    → take (16 + 4 * (n + 1)) (take (16 + 4 * n) w ++ (x ++ rest)) ≡ words (n + 1) key
+unfolding words xor_word
+next_word w key x rest n long so e =
+    let k = 16 + 4 * n in
+    let four : length x ≡ 4 = ap length e ∙ tab-length 4 _ in
+    let front : length (take k w) ≡ k = length-take-le k w long in
+    let last : word (words n key) n ≡ word w n = ap (λ l. word l n) (sym so) ∙ word-take w k n (omega arith) in
+    let temps : temp (words n key) (n + 4) ≡ temp w (n + 4) = ap (λ l. temp l (n + 4)) (sym so) ∙ temp-take w k (n + 4) (omega arith) in
+    rw (← append_assoc (take k w) x rest)
+    (take_at (take k w ++ x) rest (16 + 4 * (n + 1)) (simp length-append (omega arith))
+    ∙ rw (add-one n) (λ z. so z ++ (e ∙ (λ y. xor_word (sym last y) (sym temps y))) z))

@@ -1,14 +1,12 @@
 // AES-128, FIPS 197: the key schedule and the encryption of one block.
 #![tactic(auto)]
 
-ghost use Rattle.std.specs.Prelude.{◌≡◌, List, [], ◌∷◌, ℕ, ◌+◌, ◌*◌, ◌%◌, ◌<◌, length, take};
-ghost use Rattle.lists.specs.Tab.{tab};
-ghost use Rattle.sbox.specs.Sbox.{sbox_of};
-ghost use Rattle.aes.specs.Fips197.{sub_bytes, shift_rows, mix_byte, mix_columns, add_key, x_power, temp, words, key_expansion, cipher, aes128};
+ghost use Rattle.std.specs.Prelude.{◌≡◌, ◌+◌, ◌<◌};
+ghost use Rattle.aes.specs.Fips197.{sub_bytes, shift_rows, mix_byte, mix_columns, add_key, x_power, word, xor_word, sub_word, rot_word, rcon, key_expansion, cipher, aes128};
 ghost use Rattle.aes.specs.Example.{key_b, input_b, output_b};
 
 // x to the powers 0 to 9, the constants of the key schedule.
-const POWERS: [u8; 10] = [0x01, 0x02, 0x04, 0x08, 0x10, 0x20, 0x40, 0x80, 0x1b, 0x36];
+static POWERS: [u8; 10] = [0x01, 0x02, 0x04, 0x08, 0x10, 0x20, 0x40, 0x80, 0x1b, 0x36];
 
 fn x_power(j: usize) -> u8
     requires { j < 10 }
@@ -17,82 +15,57 @@ fn x_power(j: usize) -> u8
     POWERS[j]
 }
 
-// Word n + 4: word n xor temp, which is a, b, c, d.
-fn put_word(w: &mut [u8; 176], n: usize, a: u8, b: u8, c: u8, d: u8)
-    requires w_len { length w.old ≡ 176 }
-    requires n_bound { n < 40 }
-    ensures w_len_2 { length w.new ≡ 176 }
-    ensures next_word { (key : List ℕ) → take (16 + 4 * n) w.old ≡ words n key → a ∷ b ∷ c ∷ d ∷ [] ≡ temp w.old (n + 4) → take (16 + 4 * (n + 1)) w.new ≡ words (n + 1) key }
+// Word i of the key schedule.
+#[tactic(auto, unfolding(crate::specs::Fips197::word, lists::specs::Tab::tab))]
+fn word(w: &[u8; 176], i: usize) -> [u8; 4]
+    requires { i < 44 }
+    ensures { result ≡ word w.now i }
 {
-    let i = 4 * n;
-    let k = 16 + i;
-    let e = w[i] ^ a;
-    let f = w[i + 1] ^ b;
-    let g = w[i + 2] ^ c;
-    let h = w[i + 3] ^ d;
-    w[k] = e;
-    w[k + 1] = f;
-    w[k + 2] = g;
-    w[k + 3] = h;
+    let at = 4 * i;
+    [w[at], w[at + 1], w[at + 2], w[at + 3]]
 }
 
-// Word n + 4 of Algorithm 2, where 4 does not divide n.
-fn plain_word(w: &mut [u8; 176], n: usize)
-    requires w_len { length w.old ≡ 176 }
-    requires n_bound { (n < 40) × (n % 4 ≡ 0 → ⊥) }
-    ensures w_len_2 { length w.new ≡ 176 }
-    ensures next_word { (key : List ℕ) → take (16 + 4 * n) w.old ≡ words n key → take (16 + 4 * (n + 1)) w.new ≡ words (n + 1) key }
+#[tactic(auto, unfolding(crate::specs::Fips197::xor_word, lists::specs::Tab::tab))]
+fn xor_word(a: [u8; 4], b: [u8; 4]) -> [u8; 4]
+    ensures { result ≡ xor_word a b }
 {
-    let i = n + 4;
-    let k = 4 * (i - 1);
-    let a = w[k];
-    let b = w[k + 1];
-    let c = w[k + 2];
-    let d = w[k + 3];
-    put_word(w, n, a, b, c, d);
+    [a[0] ^ b[0], a[1] ^ b[1], a[2] ^ b[2], a[3] ^ b[3]]
 }
 
-// Word n + 4 of Algorithm 2, where 4 divides n.
-fn turned_word(t: &[u8; 256], w: &mut [u8; 176], n: usize)
-    requires t_value { t.now ≡ tab 256 sbox_of }
-    requires w_len { length w.old ≡ 176 }
-    requires n_bound { (n < 40) × (n % 4 ≡ 0) }
-    ensures w_len_2 { length w.new ≡ 176 }
-    ensures next_word { (key : List ℕ) → take (16 + 4 * n) w.old ≡ words n key → take (16 + 4 * (n + 1)) w.new ≡ words (n + 1) key }
+// SubWord and RotWord of a word, and Rcon[j + 1].
+fn turned(a: [u8; 4], j: usize) -> [u8; 4]
+    requires { j < 10 }
+    ensures { result ≡ xor_word (sub_word (rot_word a)) (rcon (j + 1)) }
 {
-    let i = n + 4;
-    let k = 4 * (i - 1);
-    let x = x_power(i / 4 - 1);
-    let a = sbox::sub(t, w[k]);
-    let b = sbox::sub(t, w[k + 1]);
-    let c = sbox::sub(t, w[k + 2]);
-    let d = sbox::sub(t, w[k + 3]);
-    put_word(w, n, b ^ x, c, d, a);
+    [
+        sbox::sub(a[1]) ^ x_power(j),
+        sbox::sub(a[2]),
+        sbox::sub(a[3]),
+        sbox::sub(a[0]),
+    ]
 }
 
-// KeyExpansion, four words a turn.
+// KeyExpansion: after each four words, temp is turned.
 pub fn expand(key: [u8; 16]) -> [u8; 176]
     ensures { result ≡ key_expansion key }
 {
-    let t = sbox::table();
     let mut w = [0u8; 176];
-    for i in 0..16 {
-        w[i] = key[i];
-    }
+    w[..16].copy_from_slice(&key);
+    let mut temp = word(&w, 3);
     for r in 0..10 {
-        let n = 4 * r;
-        let m = n + 1;
-        let l = m + 1;
-        let k = l + 1;
-        turned_word(&t, &mut w, n);
-        plain_word(&mut w, m);
-        plain_word(&mut w, l);
-        plain_word(&mut w, k);
+        temp = turned(temp, r);
+        for k in 0..4 {
+            let n = 4 * r + k;
+            temp = xor_word(word(&w, n), temp);
+            let at = 16 + 4 * n;
+            w[at..at + 4].copy_from_slice(&temp);
+        }
     }
     w
 }
 
 // A row of the matrix of MixColumns times a column.
+#[tactic(auto, unfolding(crate::specs::Fips197::mix_byte))]
 pub fn mix(a: u8, b: u8, c: u8, d: u8) -> u8
     ensures { result ≡ mix_byte a b c d }
 {
@@ -100,6 +73,7 @@ pub fn mix(a: u8, b: u8, c: u8, d: u8) -> u8
 }
 
 // AddRoundKey.
+#[tactic(auto, using(lists::specs::Tab::start, lists::specs::Tab::more, lists::specs::Tab::done), unfolding(crate::specs::Fips197::add_key))]
 fn add_key(w: &[u8; 176], n: usize, s: &[u8; 16]) -> [u8; 16]
     requires { n < 11 }
     ensures { result ≡ add_key w.now n s.now }
@@ -112,18 +86,17 @@ fn add_key(w: &[u8; 176], n: usize, s: &[u8; 16]) -> [u8; 16]
 }
 
 // A round of Algorithm 1, column by column: the four steps at once, with no state between them.
-fn round(t: &[u8; 256], w: &[u8; 176], n: usize, s: &[u8; 16]) -> [u8; 16]
-    requires t_value { t.now ≡ tab 256 sbox_of }
-    requires n_bound { n < 11 }
+fn round(w: &[u8; 176], n: usize, s: &[u8; 16]) -> [u8; 16]
+    requires { n < 11 }
     ensures { result ≡ add_key w.now n (mix_columns (shift_rows (sub_bytes s.now))) }
 {
     let mut r = [0u8; 16];
     for c in 0..4 {
         let i = 4 * c;
-        let a = sbox::sub(t, s[i]);
-        let b = sbox::sub(t, s[(i + 5) % 16]);
-        let d = sbox::sub(t, s[(i + 10) % 16]);
-        let e = sbox::sub(t, s[(i + 15) % 16]);
+        let a = sbox::sub(s[i]);
+        let b = sbox::sub(s[(i + 5) % 16]);
+        let d = sbox::sub(s[(i + 10) % 16]);
+        let e = sbox::sub(s[(i + 15) % 16]);
         let j = i + 1;
         let k = j + 1;
         let l = k + 1;
@@ -136,13 +109,12 @@ fn round(t: &[u8; 256], w: &[u8; 176], n: usize, s: &[u8; 16]) -> [u8; 16]
 }
 
 // The last round, which mixes no columns.
-fn last_round(t: &[u8; 256], w: &[u8; 176], s: &[u8; 16]) -> [u8; 16]
-    requires { t.now ≡ tab 256 sbox_of }
+fn last_round(w: &[u8; 176], s: &[u8; 16]) -> [u8; 16]
     ensures { result ≡ add_key w.now 10 (shift_rows (sub_bytes s.now)) }
 {
     let mut r = [0u8; 16];
     for i in 0..16 {
-        r[i] = sbox::sub(t, s[(i + 4 * (i % 4)) % 16]) ^ w[160 + i];
+        r[i] = sbox::sub(s[(i + 4 * (i % 4)) % 16]) ^ w[160 + i];
     }
     r
 }
@@ -151,15 +123,15 @@ fn last_round(t: &[u8; 256], w: &[u8; 176], s: &[u8; 16]) -> [u8; 16]
 pub fn encrypt(w: &[u8; 176], block: [u8; 16]) -> [u8; 16]
     ensures { result ≡ cipher w.now block }
 {
-    let t = sbox::table();
     let mut s = add_key(w, 0, &block);
     for n in 0..9 {
-        s = round(&t, w, n + 1, &s);
+        s = round(w, n + 1, &s);
     }
-    last_round(&t, w, &s)
+    last_round(w, &s)
 }
 
 // The worked example of appendix B, of the definition itself.
+#[tactic(auto, using(crate::specs::Example::appendix_b))]
 pub fn fips_197_appendix_b()
     ensures { aes128 key_b input_b ≡ output_b }
 {}

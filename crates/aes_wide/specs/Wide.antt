@@ -24,12 +24,6 @@ pub record Blocks (r : List ℕ) (g : ℕ → List ℕ) : Type 0 where
 pub record Flat (s : List ℕ) (p : ℕ) : Type 0 where
   pub equal : (l : ℕ) → l < 16 → get_or (lane s l) p 0 ≡ get_or (lane s 0) p 0
 
--- r has byte p of the first n blocks from g, and is r₀ in the other bytes.
-pub record Patched (g : ℕ → List ℕ) (p n : ℕ) (r₀ r : List ℕ) : Type 0 where
-  pub long : length r ≡ 256
-  pub row : (l : ℕ) → l < n → get_or r (16 * p + l) 0 ≡ get_or (g l) p 0
-  pub rest : (k : ℕ) → (k / 16 ≡ p → ⊥) → get_or r k 0 ≡ get_or r₀ k 0
-
 -- Document 01, Hash and streams: j as a 16-byte big-endian number.
 unfoldable pub counter : ℕ → List ℕ
 counter j = tab 16 (λ i. j / 2 ^ (8 * (15 - i)) % 256)

@@ -1,11 +1,12 @@
 // AES-128, sixteen blocks at a time: byte p of block l stands at place 16 p + l, or, once counter blocks are done, at 16 l + p.
+// The steps are not those of `aes` with a parameter N: [u8; 16 * N] would have a computed length, which Rattle does not have.
 #![tactic(auto)]
 
-ghost use Rattle.std.specs.Prelude.{true, false, ◌≡◌, ℕ, ◌+◌, ◌*◌, ◌-◌, ◌/◌, ◌%◌, ◌^◌, ◌<◌, ◌≤◌, length};
-ghost use Rattle.lists.specs.Tab.{tab};
-ghost use Rattle.sbox.specs.Sbox.{sbox_of};
-ghost use Rattle.aes.specs.Fips197.{sub_bytes, shift_rows, mix_columns, add_key, cipher};
-ghost use Rattle.aes_wide.specs.Wide.{lane, Lanes, Blocks, Flat, Patched, counter};
+ghost use Rattle.std.specs.Prelude.{◌≡◌, List, ℕ, ◌+◌, ◌*◌, ◌-◌, ◌/◌, ◌%◌, ◌^◌, ◌<◌, ◌≤◌};
+ghost use Rattle.aes.specs.Fips197.{sub_bytes, shift_rows, mix_columns, add_key, rounds, cipher};
+ghost use Rattle.aes_wide.specs.Wide.{lane, Lanes, Blocks, Flat, counter};
+
+use std::ops::Range;
 
 // Byte p of j as a 16-byte big-endian number.
 fn counter_byte(j: u64, p: usize) -> u8
@@ -15,14 +16,12 @@ fn counter_byte(j: u64, p: usize) -> u8
     if p < 8 {
         return 0;
     }
-    let k = 8 * (15 - p);
-    gf::low8(j >> k)
+    gf::low8(j >> (8 * (15 - p)))
 }
 
 // The counter blocks j to j + 15.
 pub fn counters(j: u64, r: &mut [u8; 256])
     requires j_bound { j + 15 < 18446744073709551616 }
-    requires r_len { length r.old ≡ 256 }
     ensures { Lanes r.new (λ l. counter (j + l)) }
 {
     for p in 0..16 {
@@ -32,111 +31,44 @@ pub fn counters(j: u64, r: &mut [u8; 256])
     }
 }
 
-// AddRoundKey in each block, with the key itself.
-fn first_key(w: &[u8; 176], s: &[u8; 256], r: &mut [u8; 256])
-    requires { length r.old ≡ 256 }
-    ensures { Lanes r.new (λ l. add_key w.now 0 (lane s.now l)) }
+// The steps are inlined, so that the states stay in registers: as calls they take a fifth more time.
+
+// AddRoundKey in each block.
+#[inline(always)]
+fn add_key(w: &[u8; 176], n: usize, s: &[u8; 256], r: &mut [u8; 256])
+    requires { n < 11 }
+    ensures { Lanes r.new (λ l. add_key w.now n (lane s.now l)) }
 {
     for p in 0..16 {
-        let k = w[p];
+        let k = w[16 * n + p];
         for l in 0..16 {
             r[16 * p + l] = s[16 * p + l] ^ k;
         }
     }
 }
 
-// SubBytes and ShiftRows in each block.
-fn sub_shift(t: &[u8; 256], s: &[u8; 256], r: &mut [u8; 256])
-    requires t_value { t.now ≡ tab 256 sbox_of }
-    requires r_len { length r.old ≡ 256 }
+// SubBytes and ShiftRows in each block. Outside `differing` a byte is the same in each block, and is looked up once.
+#[inline(always)]
+fn sub_shift(s: &[u8; 256], differing: Range<usize>, r: &mut [u8; 256])
+    requires { (p : ℕ) → p < 16 → (differing.start ≤ p → p < differing.end → ⊥) → Flat s.now p }
     ensures { Lanes r.new (λ l. shift_rows (sub_bytes (lane s.now l))) }
 {
     for p in 0..16 {
-        let b = 16 * ((p + 4 * (p % 4)) % 16);
-        for l in 0..16 {
-            r[16 * p + l] = sbox::sub(t, s[b + l]);
+        let from = (p + 4 * (p % 4)) % 16;
+        if differing.contains(&from) {
+            for l in 0..16 {
+                r[16 * p + l] = sbox::sub(s[16 * from + l]);
+            }
+        } else {
+            r[16 * p..16 * p + 16].fill(sbox::sub(s[16 * from]));
         }
     }
-}
-
-// SubBytes and ShiftRows of block 0, to each block.
-fn sub_shift_first(t: &[u8; 256], s: &[u8; 256], r: &mut [u8; 256])
-    requires t_value { t.now ≡ tab 256 sbox_of }
-    requires r_len { length r.old ≡ 256 }
-    ensures { Lanes r.new (λ l. shift_rows (sub_bytes (lane s.now 0))) }
-{
-    for p in 0..16 {
-        let b = 16 * ((p + 4 * (p % 4)) % 16);
-        let x = sbox::sub(t, s[b]);
-        for l in 0..16 {
-            r[16 * p + l] = x;
-        }
-    }
-}
-
-// SubBytes and ShiftRows in each block, of byte p alone.
-fn sub_shift_row(t: &[u8; 256], s: &[u8; 256], p: usize, r: &mut [u8; 256])
-    requires t_value { t.now ≡ tab 256 sbox_of }
-    requires p_bound { p < 16 }
-    requires r_len { length r.old ≡ 256 }
-    ensures { Patched (λ l. shift_rows (sub_bytes (lane s.now l))) p 16 r.old r.new }
-{
-    let b = 16 * ((p + 4 * (p % 4)) % 16);
-    for l in 0..16 {
-        r[16 * p + l] = sbox::sub(t, s[b + l]);
-    }
-}
-
-// SubBytes and ShiftRows in each block, where the blocks differ in byte 15 only: it goes to byte 3.
-fn sub_shift_one(t: &[u8; 256], s: &[u8; 256], r: &mut [u8; 256])
-    requires t_value { t.now ≡ tab 256 sbox_of }
-    requires r_len { length r.old ≡ 256 }
-    requires flat { (p : ℕ) → p < 15 → Flat s.now p }
-    ensures { Lanes r.new (λ l. shift_rows (sub_bytes (lane s.now l))) }
-{
-    sub_shift_first(t, s, r);
-    sub_shift_row(t, s, 3, r);
-}
-
-// SubBytes and ShiftRows in each block, where the blocks differ in the bytes 0 to 3 only: they go to the bytes 0, 13, 10 and 7.
-fn sub_shift_four(t: &[u8; 256], s: &[u8; 256], r: &mut [u8; 256])
-    requires t_value { t.now ≡ tab 256 sbox_of }
-    requires r_len { length r.old ≡ 256 }
-    requires flat { (p : ℕ) → 4 ≤ p → p < 16 → Flat s.now p }
-    ensures { Lanes r.new (λ l. shift_rows (sub_bytes (lane s.now l))) }
-{
-    sub_shift_first(t, s, r);
-    sub_shift_row(t, s, 0, r);
-    sub_shift_row(t, s, 13, r);
-    sub_shift_row(t, s, 10, r);
-    sub_shift_row(t, s, 7, r);
-}
-
-// SubBytes and ShiftRows of round n + 1. In the first two rounds of blocks that differ in byte 15 only, most bytes are the same in each.
-fn sub_shift_at(t: &[u8; 256], n: usize, close: bool, s: &[u8; 256], r: &mut [u8; 256])
-    requires t_value { t.now ≡ tab 256 sbox_of }
-    requires r_len { length r.old ≡ 256 }
-    requires flat { close ≡ true → n ≡ 0 → (p : ℕ) → p < 15 → Flat s.now p }
-    requires flat_2 { close ≡ true → n ≡ 1 → (p : ℕ) → 4 ≤ p → p < 16 → Flat s.now p }
-    ensures { Lanes r.new (λ l. shift_rows (sub_bytes (lane s.now l))) }
-{
-    if close {
-        if n == 0 {
-            sub_shift_one(t, s, r);
-            return;
-        }
-        if n == 1 {
-            sub_shift_four(t, s, r);
-            return;
-        }
-    }
-    sub_shift(t, s, r);
 }
 
 // MixColumns and AddRoundKey in each block.
+#[inline(always)]
 fn mix_key(w: &[u8; 176], n: usize, s: &[u8; 256], r: &mut [u8; 256])
-    requires n_bound { n < 11 }
-    requires r_len { length r.old ≡ 256 }
+    requires { n < 11 }
     ensures { Lanes r.new (λ l. add_key w.now n (mix_columns (lane s.now l))) }
 {
     for c in 0..4 {
@@ -159,78 +91,75 @@ fn mix_key(w: &[u8; 176], n: usize, s: &[u8; 256], r: &mut [u8; 256])
     }
 }
 
-// The last round in each block, which mixes no columns.
-fn last_round(t: &[u8; 256], w: &[u8; 176], s: &[u8; 256], r: &mut [u8; 256])
-    requires t_value { t.now ≡ tab 256 sbox_of }
-    requires r_len { length r.old ≡ 256 }
-    ensures { Lanes r.new (λ l. add_key w.now 10 (shift_rows (sub_bytes (lane s.now l)))) }
+// Round n of the states u, which are the same outside `differing`. v is room for what the steps give.
+#[inline(always)]
+fn round(w: &[u8; 176], n: usize, differing: Range<usize>, u: &mut [u8; 256], v: &mut [u8; 256])
+    requires n_bound { n < 11 }
+    requires flat { (p : ℕ) → p < 16 → (differing.start ≤ p → p < differing.end → ⊥) → Flat u.old p }
+    ensures { Lanes u.new (λ l. add_key w.now n (mix_columns (shift_rows (sub_bytes (lane u.old l))))) }
 {
-    for p in 0..16 {
-        let b = 16 * ((p + 4 * (p % 4)) % 16);
-        let k = w[160 + p];
-        for l in 0..16 {
-            r[16 * p + l] = sbox::sub(t, s[b + l]) ^ k;
-        }
+    sub_shift(u, differing, v);
+    mix_key(w, n, v, u);
+}
+
+// The rounds n + 1 to 9.
+fn rounds_from(w: &[u8; 176], n: usize, u: &mut [u8; 256], v: &mut [u8; 256])
+    requires { n < 10 }
+    ensures { (s : ℕ → List ℕ) → Lanes u.old (λ l. rounds w.now n (s l)) → Lanes u.new (λ l. rounds w.now 9 (s l)) }
+{
+    for k in n..9 {
+        round(w, k + 1, 0..16, u, v);
     }
 }
 
+// The rounds 1 to 9 of blocks that differ in byte 15 only: after the first they differ in the bytes 0 to 3 only.
+fn close_rounds(w: &[u8; 176], u: &mut [u8; 256], v: &mut [u8; 256])
+    requires { (p : ℕ) → p < 15 → Flat u.old p }
+    ensures { Lanes u.new (λ l. rounds w.now 9 (lane u.old l)) }
+{
+    round(w, 1, 15..16, u, v);
+    round(w, 2, 0..4, u, v);
+    rounds_from(w, 2, u, v);
+}
+
 // The last round in each block, the blocks laid out one after the other.
-fn last_blocks(t: &[u8; 256], w: &[u8; 176], s: &[u8; 256], r: &mut [u8; 256])
-    requires t_value { t.now ≡ tab 256 sbox_of }
-    requires r_len { length r.old ≡ 256 }
+fn last_blocks(w: &[u8; 176], s: &[u8; 256], r: &mut [u8; 256])
     ensures { Blocks r.new (λ l. add_key w.now 10 (shift_rows (sub_bytes (lane s.now l)))) }
 {
     for l in 0..16 {
         for p in 0..16 {
             let b = 16 * ((p + 4 * (p % 4)) % 16);
             let key = w[160 + p];
-            r[16 * l + p] = sbox::sub(t, s[b + l]) ^ key;
+            r[16 * l + p] = sbox::sub(s[b + l]) ^ key;
         }
     }
 }
 
-// Cipher of each block, under the key schedule w. If `close`, the blocks differ in byte 15 only. If `apart`, they are laid out one after
-// the other.
-fn encrypt(w: &[u8; 176], close: bool, apart: bool, s: &[u8; 256], r: &mut [u8; 256])
-    requires r_len { length r.old ≡ 256 }
-    requires flat { close ≡ true → (p : ℕ) → p < 15 → Flat s.now p }
-    ensures blocks { apart ≡ true → Blocks r.new (λ l. cipher w.now (lane s.now l)) }
-    ensures lanes { apart ≡ false → Lanes r.new (λ l. cipher w.now (lane s.now l)) }
-{
-    let t = sbox::table();
-    let mut u = [0u8; 256];
-    let mut v = [0u8; 256];
-    first_key(w, s, &mut u);
-    for n in 0..9 {
-        sub_shift_at(&t, n, close, &u, &mut v);
-        mix_key(w, n + 1, &v, &mut u);
-    }
-    if apart {
-        last_blocks(&t, w, &u, r);
-        return;
-    }
-    last_round(&t, w, &u, r);
-}
-
 // Cipher of each block, under the key schedule w.
 pub fn sixteen(w: &[u8; 176], s: &[u8; 256], r: &mut [u8; 256])
-    requires { length r.old ≡ 256 }
     ensures { Lanes r.new (λ l. cipher w.now (lane s.now l)) }
 {
-    encrypt(w, false, false, s, r);
+    let mut u = [0u8; 256];
+    let mut v = [0u8; 256];
+    add_key(w, 0, s, &mut u);
+    rounds_from(w, 0, &mut u, &mut v);
+    sub_shift(&u, 0..16, &mut v);
+    add_key(w, 10, &v, r);
 }
 
 // Cipher of the counter blocks j to j + 15, under the key schedule w, one after the other.
 pub fn counter_blocks(w: &[u8; 176], j: u64, r: &mut [u8; 256])
     requires j_bound { j + 15 < 18446744073709551616 }
-    requires r_len { length r.old ≡ 256 }
     ensures { Blocks r.new (λ l. cipher w.now (counter (j + l))) }
 {
-    let mut s = [0u8; 256];
-    counters(j, &mut s);
+    let mut u = [0u8; 256];
+    let mut v = [0u8; 256];
+    counters(j, &mut v);
+    add_key(w, 0, &v, &mut u);
     if j % 256 < 241 {
-        encrypt(w, true, true, &s, r);
-        return;
+        close_rounds(w, &mut u, &mut v);
+    } else {
+        rounds_from(w, 0, &mut u, &mut v);
     }
-    encrypt(w, false, true, &s, r);
+    last_blocks(w, &u, r);
 }

@@ -2,8 +2,7 @@
 -- Assumes nothing.
 use Rattle.std.specs.Prelude.{ℕ, ℤ, pos, neg_ℤ}
 use Rattle.protocol.specs.Pair.{Said, refused_as, found_as}
-use Rattle.prover.specs.declared.Answer.{Answer}
-use Rattle.prover.specs.declared.Answer.TheVariants.{Length, Refused}
+use Rattle.prover.specs.Answers.{Answer, Length, Refused}
 
 abbrev pub code_of : Answer → ℤ
 code_of (Length n) = pos n

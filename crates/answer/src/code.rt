@@ -3,11 +3,14 @@
 ghost use Rattle.std.specs.Prelude.{◌≡◌, ◌≤◌, pos, neg_ℤ};
 ghost use Rattle.std.specs.Int.{w64};
 ghost use Rattle.std.proofs.Common.{SFits};
+ghost use Rattle.refusals.specs.Number.{number_of};
+ghost use Rattle.refusals.specs.Refused.{number, verdict_of};
+ghost use Rattle.prover.specs.Answers.{said};
 ghost use Rattle.reading.specs.Answers.{means};
 ghost use Rattle.answer.specs.Codes.{code_of, length_of, finding_code};
 
-use prover::Answer;
-use reading::Reading;
+use reading::Finding;
+use refusals::Refusal;
 
 // A length.
 fn length_code(n: usize) -> i64
@@ -18,32 +21,42 @@ fn length_code(n: usize) -> i64
 }
 
 // Minus a refusal's number.
-pub fn refusal_code(n: u32) -> i64
-    ensures { (result ≡ neg_ℤ (pos n)) × SFits w64 result }
+pub fn refusal_code(r: Refusal) -> i64
+    ensures { (result ≡ neg_ℤ (pos (number r))) × SFits w64 result }
 {
-    -(n as i64)
+    -(r.number() as i64)
+}
+
+// 0 where a judge accepts, or the refusal's number.
+pub fn verdict_code(verdict: Result<(), Refusal>) -> u32
+    ensures { result ≡ number_of (verdict_of verdict) }
+{
+    match verdict {
+        Ok(()) => 0,
+        Err(r) => r.number(),
+    }
 }
 
 // The length, or minus the refusal's number.
-pub fn code(answer: Answer) -> i64
-    requires { length_of answer ≤ 100000 }
-    ensures { (result ≡ code_of answer) × SFits w64 result }
+pub fn code(answer: Result<usize, Refusal>) -> i64
+    requires { length_of (said answer) ≤ 100000 }
+    ensures { (result ≡ code_of (said answer)) × SFits w64 result }
 {
     match answer {
-        Answer::Length(n) => length_code(n),
-        Answer::Refused(n) => refusal_code(n),
+        Ok(n) => length_code(n),
+        Err(r) => refusal_code(r),
     }
 }
 
 // The finding's number, or minus the refusal's.
-pub fn finding_code(r: Reading) -> i64
+pub fn finding_code(r: Result<Finding, Refusal>) -> i64
     ensures { (result ≡ finding_code (means r)) × SFits w64 result }
 {
     match r {
-        Reading::Refused(n) => refusal_code(n),
-        Reading::Collision(_, _, _, _) => 1,
-        Reading::Secret => 2,
-        Reading::Square(_, _, _, _) => 3,
-        Reading::Errors(_) => 4,
+        Ok(Finding::Collision { .. }) => 1,
+        Ok(Finding::Secret) => 2,
+        Ok(Finding::Square { .. }) => 3,
+        Ok(Finding::Errors { .. }) => 4,
+        Err(refusal) => refusal_code(refusal),
     }
 }

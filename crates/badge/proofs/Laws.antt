@@ -10,29 +10,24 @@ use borrow.Author.Tests.{le-leb}
 use lib.Dec.{leb}
 use Rattle.lists.specs.Check.{Check, ◌⇒◌, Verdict, accepted, refused, first}
 use Rattle.lists.specs.TestLaws.{or_else, not_of_true, first_miss, first-append, each_holds}
-use Rattle.protocol.specs.Key.{Key, entries, key_of, key_checks}
+use Rattle.protocol.specs.Key.{entries, key_of, key_checks}
 use Rattle.protocol.specs.Judge.{run_checks, judge, judge_lent, lent_enough}
-use Rattle.refusals.specs.Number.{number_of}
-use Rattle.key.specs.declared.Numbers.{Numbers}
-use Rattle.key.specs.Numbers.{Read}
-use Rattle.key.specs.KeyLaws.{read_of, entries_most}
-
-numbers : Key → Numbers
-numbers K = record { q = K.q; n = K.n; m = K.m; parties = K.N; executions = K.M; opened = K.τ }
+use Rattle.key.specs.Limits.{Limits}
+use Rattle.key.specs.KeyLaws.{limits_accepted, entries_most}
 
 module _ (work entry : ℕ) (work_long : 16384 ≤ work) (entry-long : 4128 ≤ entry) where
   enough : (key : List ℕ) → first (key_checks (key_of key) key) ≡ accepted → lent_enough (key_of key) work entry ≡ true
-  unfolding lent_enough numbers
+  unfolding lent_enough
   enough key good =
       let K = key_of key in
-      let read : Read key (numbers K) = read_of key (numbers K) good (record { q_is = refl; n_is = refl; m_is = refl; parties_is = refl; executions_is = refl; τ_is = refl }) in
+      let within : Limits K.q K.n K.m K.N K.M K.τ = limits_accepted key good in
       each_holds (leb (4 * K.m * K.N) work ∷ leb (entries K) entry ∷ []) (
         le-leb (4 * K.m * K.N) work
             (omega (
               arith,
-              mul-le-mul {n₁ = 4 * K.m} {m₁ = K.N} {n₂ = 512} {m₂ = 32} (omega (arith, read.within.m_most)) read.within.parties_most,
+              mul-le-mul {n₁ = 4 * K.m} {m₁ = K.N} {n₂ = 512} {m₂ = 32} (omega (arith, within.m_most)) within.parties_most,
             )),
-        (le-leb (entries K) entry (omega (arith, entries_most K.n K.m read.within.n_most read.within.m_most)), tt),
+        (le-leb (entries K) entry (omega (arith, entries_most K.n K.m within.n_most within.m_most)), tt),
       )
 
 -- a test that never refuses where the first list accepts can be left out
@@ -45,10 +40,8 @@ without a b t n h = first-append a ((t ⇒ n) ∷ b) ∙ (go (first a) refl ∙ 
     go (refused k) e = ap (λ (v : Verdict). or_else v (first ((t ⇒ n) ∷ b))) e ∙ sym (ap (λ (v : Verdict). or_else v (first b)) e)
 
 -- the judge over lists of at least the greatest lengths is the judge
-pub judged : (key x : List ℕ) (work entry : ℕ) {r : ℕ} → r ≡ number_of (judge_lent key work entry x) → 16384 ≤ work → 4128 ≤ entry → r ≡ number_of (judge key x)
+pub judged : (key x : List ℕ) (work entry : ℕ) → 16384 ≤ work → 4128 ≤ entry → judge_lent key work entry x ≡ judge key x
 unfolding judge_lent judge
-judged key x work entry is work_long entry-long =
-    is
-    ∙ ap number_of
-    (without (key_checks (key_of key) key) (run_checks (key_of key) x) (not (lent_enough (key_of key) work entry)) 11
-    (λ e. not_of_true (enough work entry work_long entry-long key e)))
+judged key x work entry work_long entry-long =
+    without (key_checks (key_of key) key) (run_checks (key_of key) x) (not (lent_enough (key_of key) work entry)) 11
+    (λ e. not_of_true (enough work entry work_long entry-long key e))

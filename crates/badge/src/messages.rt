@@ -3,20 +3,23 @@
 ghost use Rattle.std.specs.Prelude.{◌≡◌, length};
 ghost use Rattle.protocol.specs.Key.{key_of};
 ghost use Rattle.protocol.specs.Prover.{message1, message3, message5, message7, verdict1, verdict3, verdict5, verdict7, output};
-ghost use Rattle.prover.specs.Answers.{answer_of};
-ghost use Rattle.answer.specs.Codes.{code_of};
+ghost use Rattle.prover.specs.Answers.{answer_of, said};
 
-use answer::code::code;
+use refusals::Refusal;
 
 // Message 1 into the output from a place on.
-pub fn badge_message_1(key: &[u8], seeds: &[u8], out: &mut [u8], place: u64) -> i64
-    ensures value { result ≡ code_of (answer_of (verdict1 key.now seeds.now (length out.old) place 16384 4128) (message1 (key_of key.now) seeds.now)) }
+pub fn badge_message_1(
+    key: &[u8],
+    seeds: &[u8],
+    out: &mut [u8],
+    place: usize,
+) -> Result<usize, Refusal>
+    ensures value { said result ≡ answer_of (verdict1 key.now seeds.now (length out.old) place 16384 4128) (message1 (key_of key.now) seeds.now) }
     ensures out_after { out.new ≡ output (verdict1 key.now seeds.now (length out.old) place 16384 4128) (message1 (key_of key.now) seeds.now) place out.old }
 {
     let mut entries = [0u32; 4128];
     let mut work = [0u32; 16384];
-    let answer = message_1::message_1(key, seeds, out, place as usize, &mut entries, &mut work);
-    code(answer)
+    message_1::message_1(key, seeds, out, place, &mut entries, &mut work)
 }
 
 // Message 3 into the output from a place on.
@@ -27,25 +30,24 @@ pub fn badge_message_3(
     e: &[u8],
     kappa: &[u8],
     out: &mut [u8],
-    place: u64,
-) -> i64
-    ensures value { result ≡ code_of (answer_of (verdict3 key.now seeds.now secret.now e.now kappa.now (length out.old) place 16384 4128) (message3 (key_of key.now) seeds.now secret.now e.now kappa.now)) }
+    place: usize,
+) -> Result<usize, Refusal>
+    ensures value { said result ≡ answer_of (verdict3 key.now seeds.now secret.now e.now kappa.now (length out.old) place 16384 4128) (message3 (key_of key.now) seeds.now secret.now e.now kappa.now) }
     ensures out_after { out.new ≡ output (verdict3 key.now seeds.now secret.now e.now kappa.now (length out.old) place 16384 4128) (message3 (key_of key.now) seeds.now secret.now e.now kappa.now) place out.old }
 {
     let mut entries = [0u32; 4128];
     let mut work = [0u32; 16384];
-    let answer = message_3::message_3(
+    message_3::message_3(
         key,
         seeds,
         secret,
         e,
         kappa,
         out,
-        place as usize,
+        place,
         &mut entries,
         &mut work,
-    );
-    code(answer)
+    )
 }
 
 // Message 5 into the output from a place on.
@@ -57,14 +59,14 @@ pub fn badge_message_5(
     kappa: &[u8],
     seed: &[u8],
     out: &mut [u8],
-    place: u64,
-) -> i64
-    ensures value { result ≡ code_of (answer_of (verdict5 key.now seeds.now secret.now e.now kappa.now seed.now (length out.old) place 16384 4128) (message5 (key_of key.now) seeds.now secret.now e.now kappa.now seed.now)) }
+    place: usize,
+) -> Result<usize, Refusal>
+    ensures value { said result ≡ answer_of (verdict5 key.now seeds.now secret.now e.now kappa.now seed.now (length out.old) place 16384 4128) (message5 (key_of key.now) seeds.now secret.now e.now kappa.now seed.now) }
     ensures out_after { out.new ≡ output (verdict5 key.now seeds.now secret.now e.now kappa.now seed.now (length out.old) place 16384 4128) (message5 (key_of key.now) seeds.now secret.now e.now kappa.now seed.now) place out.old }
 {
     let mut entries = [0u32; 4128];
     let mut work = [0u32; 16384];
-    let answer = message_5::message_5(
+    message_5::message_5(
         key,
         seeds,
         secret,
@@ -72,11 +74,10 @@ pub fn badge_message_5(
         kappa,
         seed,
         out,
-        place as usize,
+        place,
         &mut entries,
         &mut work,
-    );
-    code(answer)
+    )
 }
 
 // Message 7 into the output from a place on.
@@ -89,14 +90,14 @@ pub fn badge_message_7(
     seed: &[u8],
     hidden: &[u8],
     out: &mut [u8],
-    place: u64,
-) -> i64
-    ensures value { result ≡ code_of (answer_of (verdict7 key.now seeds.now secret.now e.now kappa.now seed.now hidden.now (length out.old) place 16384 4128) (message7 (key_of key.now) seeds.now secret.now e.now kappa.now seed.now hidden.now)) }
+    place: usize,
+) -> Result<usize, Refusal>
+    ensures value { said result ≡ answer_of (verdict7 key.now seeds.now secret.now e.now kappa.now seed.now hidden.now (length out.old) place 16384 4128) (message7 (key_of key.now) seeds.now secret.now e.now kappa.now seed.now hidden.now) }
     ensures out_after { out.new ≡ output (verdict7 key.now seeds.now secret.now e.now kappa.now seed.now hidden.now (length out.old) place 16384 4128) (message7 (key_of key.now) seeds.now secret.now e.now kappa.now seed.now hidden.now) place out.old }
 {
     let mut entries = [0u32; 4128];
     let mut work = [0u32; 16384];
-    let answer = message_7::message_7(
+    message_7::message_7(
         key,
         seeds,
         secret,
@@ -105,9 +106,8 @@ pub fn badge_message_7(
         seed,
         hidden,
         out,
-        place as usize,
+        place,
         &mut entries,
         &mut work,
-    );
-    code(answer)
+    )
 }

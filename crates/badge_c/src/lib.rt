@@ -1,4 +1,4 @@
-// The calls of crate `badge` under their names in C, each with that call's own contract: what include/badge.h declares.
+// The calls under their names in C, as include/badge.h declares them: what crate `badge` or a crate below answers, as one number.
 #![tactic(auto)]
 
 ghost use Rattle.std.specs.Prelude.{◌≡◌, length};
@@ -14,13 +14,16 @@ ghost use Rattle.answer.specs.Rows.{row_after};
 ghost use Rattle.pair.specs.Lent.{lengths};
 ghost use Rattle.badge.specs.PairCall.{pair_call};
 
+use answer::code::{code, finding_code, verdict_code};
+
 // Message 1 into the output from a place on.
 #[unsafe(no_mangle)]
 pub extern "C" fn badge_message_1(key: &[u8], seeds: &[u8], out: &mut [u8], place: u64) -> i64
     ensures value { result ≡ code_of (answer_of (verdict1 key.now seeds.now (length out.old) place 16384 4128) (message1 (key_of key.now) seeds.now)) }
     ensures out_after { out.new ≡ output (verdict1 key.now seeds.now (length out.old) place 16384 4128) (message1 (key_of key.now) seeds.now) place out.old }
 {
-    badge::messages::badge_message_1(key, seeds, out, place)
+    let length = badge::messages::badge_message_1(key, seeds, out, place as usize);
+    code(length)
 }
 
 // Message 3 into the output from a place on.
@@ -37,7 +40,16 @@ pub extern "C" fn badge_message_3(
     ensures value { result ≡ code_of (answer_of (verdict3 key.now seeds.now secret.now e.now kappa.now (length out.old) place 16384 4128) (message3 (key_of key.now) seeds.now secret.now e.now kappa.now)) }
     ensures out_after { out.new ≡ output (verdict3 key.now seeds.now secret.now e.now kappa.now (length out.old) place 16384 4128) (message3 (key_of key.now) seeds.now secret.now e.now kappa.now) place out.old }
 {
-    badge::messages::badge_message_3(key, seeds, secret, e, kappa, out, place)
+    let length = badge::messages::badge_message_3(
+        key,
+        seeds,
+        secret,
+        e,
+        kappa,
+        out,
+        place as usize,
+    );
+    code(length)
 }
 
 // Message 5 into the output from a place on.
@@ -55,7 +67,17 @@ pub extern "C" fn badge_message_5(
     ensures value { result ≡ code_of (answer_of (verdict5 key.now seeds.now secret.now e.now kappa.now seed.now (length out.old) place 16384 4128) (message5 (key_of key.now) seeds.now secret.now e.now kappa.now seed.now)) }
     ensures out_after { out.new ≡ output (verdict5 key.now seeds.now secret.now e.now kappa.now seed.now (length out.old) place 16384 4128) (message5 (key_of key.now) seeds.now secret.now e.now kappa.now seed.now) place out.old }
 {
-    badge::messages::badge_message_5(key, seeds, secret, e, kappa, seed, out, place)
+    let length = badge::messages::badge_message_5(
+        key,
+        seeds,
+        secret,
+        e,
+        kappa,
+        seed,
+        out,
+        place as usize,
+    );
+    code(length)
 }
 
 // Message 7 into the output from a place on.
@@ -74,7 +96,18 @@ pub extern "C" fn badge_message_7(
     ensures value { result ≡ code_of (answer_of (verdict7 key.now seeds.now secret.now e.now kappa.now seed.now hidden.now (length out.old) place 16384 4128) (message7 (key_of key.now) seeds.now secret.now e.now kappa.now seed.now hidden.now)) }
     ensures out_after { out.new ≡ output (verdict7 key.now seeds.now secret.now e.now kappa.now seed.now hidden.now (length out.old) place 16384 4128) (message7 (key_of key.now) seeds.now secret.now e.now kappa.now seed.now hidden.now) place out.old }
 {
-    badge::messages::badge_message_7(key, seeds, secret, e, kappa, seed, hidden, out, place)
+    let length = badge::messages::badge_message_7(
+        key,
+        seeds,
+        secret,
+        e,
+        kappa,
+        seed,
+        hidden,
+        out,
+        place as usize,
+    );
+    code(length)
 }
 
 // The first number of document 01's table that applies to a key and a transcript, or 0: accepted. Both work lists are its own.
@@ -82,7 +115,7 @@ pub extern "C" fn badge_message_7(
 pub extern "C" fn badge_judge(key: &[u8], run: &[u8]) -> u32
     ensures { result ≡ number_of (judge key.now run.now) }
 {
-    badge::badge_judge(key, run)
+    verdict_code(badge::badge_judge(key, run))
 }
 
 // What must lie behind two transcripts; both work lists are its own.
@@ -104,7 +137,8 @@ pub extern "C" fn badge_pair(
     ensures uv_after { uv.new ≡ errors_of (pair_call (length answer.old) key.now (lengths (length hash1.old) (length hash2.old) (length secret.old) (length uv.old) 4128 16384) run1.now run2.now) uv.old }
     ensures answer_after { answer.new ≡ row_after (says (pair_call (length answer.old) key.now (lengths (length hash1.old) (length hash2.old) (length secret.old) (length uv.old) 4128 16384) run1.now run2.now)) answer.old }
 {
-    badge::pairs::badge_pair(key, run1, run2, hash1, hash2, secret, uv, answer)
+    let finding = badge::pairs::badge_pair(key, run1, run2, hash1, hash2, secret, uv, answer);
+    finding_code(finding)
 }
 
 // Message 1 into the output from a place on.
@@ -120,7 +154,8 @@ pub extern "C" fn badge_message_1_lent(
     ensures value { result ≡ code_of (answer_of (verdict1 key.now seeds.now (length out.old) place (length work.old) (length entries.old)) (message1 (key_of key.now) seeds.now)) }
     ensures out_after { out.new ≡ output (verdict1 key.now seeds.now (length out.old) place (length work.old) (length entries.old)) (message1 (key_of key.now) seeds.now) place out.old }
 {
-    badge::lent::badge_message_1_lent(key, seeds, out, place, entries, work)
+    let length = message_1::message_1(key, seeds, out, place as usize, entries, work);
+    code(length)
 }
 
 // Message 3 into the output from a place on.
@@ -139,7 +174,18 @@ pub extern "C" fn badge_message_3_lent(
     ensures value { result ≡ code_of (answer_of (verdict3 key.now seeds.now secret.now e.now kappa.now (length out.old) place (length work.old) (length entries.old)) (message3 (key_of key.now) seeds.now secret.now e.now kappa.now)) }
     ensures out_after { out.new ≡ output (verdict3 key.now seeds.now secret.now e.now kappa.now (length out.old) place (length work.old) (length entries.old)) (message3 (key_of key.now) seeds.now secret.now e.now kappa.now) place out.old }
 {
-    badge::lent::badge_message_3_lent(key, seeds, secret, e, kappa, out, place, entries, work)
+    let length = message_3::message_3(
+        key,
+        seeds,
+        secret,
+        e,
+        kappa,
+        out,
+        place as usize,
+        entries,
+        work,
+    );
+    code(length)
 }
 
 // Message 5 into the output from a place on.
@@ -159,9 +205,19 @@ pub extern "C" fn badge_message_5_lent(
     ensures value { result ≡ code_of (answer_of (verdict5 key.now seeds.now secret.now e.now kappa.now seed.now (length out.old) place (length work.old) (length entries.old)) (message5 (key_of key.now) seeds.now secret.now e.now kappa.now seed.now)) }
     ensures out_after { out.new ≡ output (verdict5 key.now seeds.now secret.now e.now kappa.now seed.now (length out.old) place (length work.old) (length entries.old)) (message5 (key_of key.now) seeds.now secret.now e.now kappa.now seed.now) place out.old }
 {
-    badge::lent::badge_message_5_lent(
-        key, seeds, secret, e, kappa, seed, out, place, entries, work,
-    )
+    let length = message_5::message_5(
+        key,
+        seeds,
+        secret,
+        e,
+        kappa,
+        seed,
+        out,
+        place as usize,
+        entries,
+        work,
+    );
+    code(length)
 }
 
 // Message 7 into the output from a place on.
@@ -182,9 +238,20 @@ pub extern "C" fn badge_message_7_lent(
     ensures value { result ≡ code_of (answer_of (verdict7 key.now seeds.now secret.now e.now kappa.now seed.now hidden.now (length out.old) place (length work.old) (length entries.old)) (message7 (key_of key.now) seeds.now secret.now e.now kappa.now seed.now hidden.now)) }
     ensures out_after { out.new ≡ output (verdict7 key.now seeds.now secret.now e.now kappa.now seed.now hidden.now (length out.old) place (length work.old) (length entries.old)) (message7 (key_of key.now) seeds.now secret.now e.now kappa.now seed.now hidden.now) place out.old }
 {
-    badge::lent::badge_message_7_lent(
-        key, seeds, secret, e, kappa, seed, hidden, out, place, entries, work,
-    )
+    let length = message_7::message_7(
+        key,
+        seeds,
+        secret,
+        e,
+        kappa,
+        seed,
+        hidden,
+        out,
+        place as usize,
+        entries,
+        work,
+    );
+    code(length)
 }
 
 // The first number of document 01's table that applies to a key and a transcript, or 0: accepted.
@@ -197,7 +264,7 @@ pub extern "C" fn badge_judge_lent(
 ) -> u32
     ensures { result ≡ number_of (judge_lent key.now (length work.old) (length entries.old) run.now) }
 {
-    badge::lent::badge_judge_lent(key, run, entries, work)
+    verdict_code(judge::run::judge(key, run, entries, work))
 }
 
 // What must lie behind two transcripts, over lent lists.
@@ -221,7 +288,8 @@ pub extern "C" fn badge_pair_lent(
     ensures uv_after { uv.new ≡ errors_of (pair_call (length answer.old) key.now (lengths (length hash1.old) (length hash2.old) (length secret.old) (length uv.old) (length entries.old) (length work.old)) run1.now run2.now) uv.old }
     ensures answer_after { answer.new ≡ row_after (says (pair_call (length answer.old) key.now (lengths (length hash1.old) (length hash2.old) (length secret.old) (length uv.old) (length entries.old) (length work.old)) run1.now run2.now)) answer.old }
 {
-    badge::pairs::badge_pair_lent(
+    let finding = badge::pairs::badge_pair_lent(
         key, run1, run2, hash1, hash2, secret, uv, answer, entries, work,
-    )
+    );
+    finding_code(finding)
 }

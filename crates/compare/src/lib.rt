@@ -1,246 +1,205 @@
-// The first two hash inputs of two transcripts that differ (document 01, Pair reader), as places in the lists that hold them.
+// The first two hash inputs of two transcripts that differ (document 01, Pair reader), as a place in the lists that hold them.
 #![tactic(auto)]
 
-ghost use Rattle.std.specs.Prelude.{◌≡◌, false, List, ℕ, ◌+◌, ◌*◌, ◌-◌, ◌≤◌, ◌<◌, length};
+mod sides;
+
+ghost use Rattle.std.specs.Prelude.{◌≡◌, ◌-◌, ◌<◌, length, IfSome, All};
 ghost use Rattle.lists.specs.Index.{cat};
-ghost use Rattle.key.specs.Numbers.{Limits};
 ghost use Rattle.walk.specs.Lists.{lists_size};
 ghost use Rattle.inputs.specs.Layout.{execution_size};
-ghost use Rattle.compare.specs.Spots.{Inside, Spots, Marked, nowhere, first_spot, open_both, on_hashes, on_party, on_last, on_rest, on_all};
+ghost use Rattle.compare.specs.Kinds.{number};
+ghost use Rattle.compare.specs.Spots.{Inside, at, shown, open_both, on_hashes, on_party, on_last, on_rest, on_all};
+ghost use Rattle.compare.specs.Between.{Fits, first_between};
 
 use bytes4::same_bytes;
-use key::Numbers;
+pub use sides::{Compared, Side};
 
-// Two inputs that differ: their kind, the party from 1 on (N for Ω, 0 where none), and where both begin and how long both are, in the
-// lists of the list hashes or in those of the execution. Where no two inputs differ, each is 0 or false.
-#[derive(Clone, Copy)]
+// Which hash input two transcripts differ in.
+#[derive(Clone, Copy, Debug, PartialEq, Eq)]
+pub enum Kind {
+    HGamma = 1,
+    H = 2,
+    Gamma = 3,
+    Omega = 4,
+    HPi = 5,
+    Pi = 6,
+    HPsi = 7,
+    Psi = 8,
+}
+
+impl Kind {
+    // Its number in document 01.
+    pub fn number(self) -> u32
+        ensures { result ≡ number self }
+    {
+        self as u32
+    }
+}
+
+// Which lists hold an input: those of the list hashes, or those of the execution.
+#[derive(Clone, Copy, Debug, PartialEq, Eq)]
+pub enum Source {
+    Lists,
+    Execution,
+}
+
+// Two inputs that differ: their kind, the party from 1 on (N for Ω, 0 where none), and where both begin and how long both are.
+#[derive(Clone, Copy, Debug, PartialEq, Eq)]
 pub struct Spot {
-    pub kind: u32,
+    pub kind: Kind,
     pub party: usize,
-    pub listed: bool,
+    pub source: Source,
     pub from: usize,
     pub length: usize,
 }
 
-// One place of two lists where they differ there, else nothing.
-fn compare_at(
-    kind: u32,
-    party: usize,
-    listed: bool,
-    from: usize,
-    size: usize,
-    one: &[u8],
-    two: &[u8],
-) -> Spot
-    requires le_kind { 1 ≤ kind }
-    requires size_in_bounds { from + size ≤ length one.now }
-    requires size_in_bounds_2 { from + size ≤ length two.now }
-    ensures { Marked kind party listed from size one.now two.now result }
-{
-    let to = from + size;
-    if same_bytes(&one[from..to], &two[from..to]) {
-        return nothing();
-    }
-    Spot {
-        kind,
-        party,
-        listed,
-        from,
-        length: size,
-    }
-}
-
-// Party i is hidden in neither.
-#[tactic(auto, using(crate::proofs::Laws::open_two, crate::proofs::Laws::closed_one, crate::proofs::Laws::closed_two))]
-fn open_in_both(hidden1: usize, hidden2: usize, i: usize) -> bool
-    ensures { result ≡ open_both hidden1 hidden2 i }
-{
-    if i == hidden1 {
-        return false;
-    }
-    if i == hidden2 {
-        return false;
-    }
-    true
-}
-
-// No two inputs differ.
-fn nothing() -> Spot
-    ensures { result ≡ nowhere }
-{
-    Spot {
-        kind: 0,
-        party: 0,
-        listed: false,
-        from: 0,
-        length: 0,
-    }
-}
-
-// hΓ and h(e).
-fn of_hashes(k: Numbers, lists1: &[u8], lists2: &[u8], inputs1: &[u8], inputs2: &[u8]) -> Spot
-    requires limits { Limits k }
-    requires lists1_len { length lists1.now ≡ lists_size k.executions (k.executions - k.opened) }
-    requires lists2_len { length lists2.now ≡ lists_size k.executions (k.executions - k.opened) }
-    requires inputs1_len { length inputs1.now ≡ execution_size k.m k.parties }
-    requires inputs2_len { length inputs2.now ≡ execution_size k.m k.parties }
-    ensures { Spots (on_hashes k.executions k.parties) lists1.now lists2.now inputs1.now inputs2.now result }
-{
-    let first = compare_at(1, 0, true, 0, 32 * k.executions, lists1, lists2);
-    if first.kind != 0 {
-        return first;
-    }
-    compare_at(2, 0, false, 0, 32 * k.parties, inputs1, inputs2)
-}
-
-// Γ of party i, where it is open in both.
-fn of_party(
-    k: Numbers,
-    hidden1: usize,
-    hidden2: usize,
-    inputs1: &[u8],
-    inputs2: &[u8],
-    i: usize,
-) -> Spot
-    requires limits { Limits k }
-    requires inputs1_len { length inputs1.now ≡ execution_size k.m k.parties }
-    requires inputs2_len { length inputs2.now ≡ execution_size k.m k.parties }
-    requires i_lt_parties { i < k.parties }
-    ensures { (l m : List ℕ) → Spots (on_party k.m k.parties hidden1 hidden2 i) l m inputs1.now inputs2.now result }
-{
-    if !open_in_both(hidden1, hidden2, i) {
-        return nothing();
-    }
-    let from = 32 * k.parties + 32 * i;
-    if i + 1 == k.parties {
-        return compare_at(3, i + 1, false, from, 32 + 4 * k.m, inputs1, inputs2);
-    }
-    compare_at(3, i + 1, false, from, 32, inputs1, inputs2)
-}
-
-// Γ of the parties that are open in both.
-fn of_parties(k: Numbers, hidden1: usize, hidden2: usize, inputs1: &[u8], inputs2: &[u8]) -> Spot
-    requires limits { Limits k }
-    requires inputs1_len { length inputs1.now ≡ execution_size k.m k.parties }
-    requires inputs2_len { length inputs2.now ≡ execution_size k.m k.parties }
-    ensures { (l m : List ℕ) → Spots (cat k.parties (on_party k.m k.parties hidden1 hidden2)) l m inputs1.now inputs2.now result }
-{
-    let parties = k.parties;
-    let mut i = 0;
-    while i < parties {
-        let spot = of_party(k, hidden1, hidden2, inputs1, inputs2, i);
-        if spot.kind != 0 {
-            return spot;
+impl Spot {
+    // A place in the lists of the list hashes.
+    fn listed(kind: Kind, from: usize, size: usize) -> Spot
+        ensures { result ≡ at kind 0 Source.Lists from size }
+    {
+        Spot {
+            kind,
+            party: 0,
+            source: Source::Lists,
+            from,
+            length: size,
         }
-        i += 1;
     }
-    nothing()
+
+    // A place in the lists of the execution.
+    fn opened(kind: Kind, party: usize, from: usize, size: usize) -> Spot
+        ensures { result ≡ at kind party Source.Execution from size }
+    {
+        Spot {
+            kind,
+            party,
+            source: Source::Execution,
+            from,
+            length: size,
+        }
+    }
+
+    // The input at this place of a transcript's lists.
+    pub fn input<'a>(self, side: Side<'a>) -> &'a [u8]
+        requires { Inside (length side.lists.now) (length side.inputs.now) self }
+        ensures { result.now ≡ shown self side.entry.lists.now side.entry.inputs.now }
+    {
+        match self.source {
+            Source::Lists => &side.lists[self.from..][..self.length],
+            Source::Execution => &side.inputs[self.from..][..self.length],
+        }
+    }
 }
 
-// Ω, where N is open in both.
-fn of_last(k: Numbers, hidden1: usize, hidden2: usize, inputs1: &[u8], inputs2: &[u8]) -> Spot
-    requires limits { Limits k }
-    requires inputs1_len { length inputs1.now ≡ execution_size k.m k.parties }
-    requires inputs2_len { length inputs2.now ≡ execution_size k.m k.parties }
-    ensures { (l m : List ℕ) → Spots (on_last k.m k.parties hidden1 hidden2) l m inputs1.now inputs2.now result }
-{
-    let parties = k.parties;
-    if !open_in_both(hidden1, hidden2, parties - 1) {
-        return nothing();
+impl Compared<'_> {
+    // The first of these places at which the lists differ.
+    fn first_of(self, spots: &[Spot]) -> Option<Spot>
+        requires { All (Fits self) spots.now }
+        ensures { result ≡ first_between spots.now self.entry }
+    {
+        for spot in spots {
+            if !same_bytes(spot.input(self.one), spot.input(self.two)) {
+                return Some(*spot);
+            }
+        }
+        None
     }
-    compare_at(
-        4,
-        parties,
-        false,
-        64 * parties + 4 * k.m,
-        4 * k.m + 16,
-        inputs1,
-        inputs2,
-    )
-}
 
-// hπ, Π, hψ and Ψ.
-fn of_rest(k: Numbers, lists1: &[u8], lists2: &[u8], inputs1: &[u8], inputs2: &[u8]) -> Spot
-    requires limits { Limits k }
-    requires lists1_len { length lists1.now ≡ lists_size k.executions (k.executions - k.opened) }
-    requires lists2_len { length lists2.now ≡ lists_size k.executions (k.executions - k.opened) }
-    requires inputs1_len { length inputs1.now ≡ execution_size k.m k.parties }
-    requires inputs2_len { length inputs2.now ≡ execution_size k.m k.parties }
-    ensures { Spots (on_rest k.m k.parties k.executions (k.executions - k.opened)) lists1.now lists2.now inputs1.now inputs2.now result }
-{
-    let m = k.m;
-    let parties = k.parties;
-    let executions = k.executions;
-    let kept = executions - k.opened;
-    let grid = 4 * m * parties;
-    let hpi = compare_at(5, 0, true, 32 * executions, 32 * kept, lists1, lists2);
-    if hpi.kind != 0 {
-        return hpi;
+    // Party i is hidden in neither.
+    #[tactic(auto, using(crate::proofs::Laws::open_one, crate::proofs::Laws::closed_one))]
+    fn open_in_both(self, i: usize) -> bool
+        ensures { result ≡ open_both self.entry.one.hidden self.entry.two.hidden i }
+    {
+        i != self.one.hidden && i != self.two.hidden
     }
-    let pi = compare_at(
-        6,
-        0,
-        false,
-        64 * parties + 8 * m + 16,
-        grid + 16,
-        inputs1,
-        inputs2,
-    );
-    if pi.kind != 0 {
-        return pi;
-    }
-    let hpsi = compare_at(
-        7,
-        0,
-        true,
-        32 * executions + 32 * kept,
-        32 * kept,
-        lists1,
-        lists2,
-    );
-    if hpsi.kind != 0 {
-        return hpsi;
-    }
-    compare_at(
-        8,
-        0,
-        false,
-        64 * parties + 8 * m + grid + 32,
-        4 * parties + 16,
-        inputs1,
-        inputs2,
-    )
-}
 
-// The first two inputs that differ, of two transcripts that hide these parties, counted from 0, in the execution.
-pub fn first_difference(
-    k: Numbers,
-    hidden1: usize,
-    hidden2: usize,
-    lists1: &[u8],
-    lists2: &[u8],
-    inputs1: &[u8],
-    inputs2: &[u8],
-) -> Spot
-    requires limits { Limits k }
-    requires lists1_len { length lists1.now ≡ lists_size k.executions (k.executions - k.opened) }
-    requires lists2_len { length lists2.now ≡ lists_size k.executions (k.executions - k.opened) }
-    requires inputs1_len { length inputs1.now ≡ execution_size k.m k.parties }
-    requires inputs2_len { length inputs2.now ≡ execution_size k.m k.parties }
-    ensures inside { Inside (lists_size k.executions (k.executions - k.opened)) (execution_size k.m k.parties) result }
-    ensures value { result ≡ first_spot (on_all k.m k.parties k.executions (k.executions - k.opened) hidden1 hidden2) lists1.now lists2.now inputs1.now inputs2.now }
-{
-    let hashes = of_hashes(k, lists1, lists2, inputs1, inputs2);
-    if hashes.kind != 0 {
-        return hashes;
+    // hΓ and h(e).
+    fn of_hashes(self) -> Option<Spot>
+        ensures { result ≡ first_between (on_hashes self.entry.numbers.executions self.entry.numbers.parties) self.entry }
+    {
+        let h_gamma = Spot::listed(Kind::HGamma, 0, 32 * self.numbers.executions);
+        let h = Spot::opened(Kind::H, 0, 0, 32 * self.numbers.parties);
+        self.first_of(&[h_gamma, h])
     }
-    let parties = of_parties(k, hidden1, hidden2, inputs1, inputs2);
-    if parties.kind != 0 {
-        return parties;
+
+    // Γ of party i, where it is open in both.
+    fn of_party(self, i: usize) -> Option<Spot>
+        requires { i < self.numbers.parties }
+        ensures { result ≡ first_between (on_party self.entry.numbers.m self.entry.numbers.parties self.entry.one.hidden self.entry.two.hidden i) self.entry }
+    {
+        if !self.open_in_both(i) {
+            return None;
+        }
+        let from = 32 * self.numbers.parties + 32 * i;
+        let length = if i + 1 == self.numbers.parties {
+            32 + 4 * self.numbers.m
+        } else {
+            32
+        };
+        self.first_of(&[Spot::opened(Kind::Gamma, i + 1, from, length)])
     }
-    let last = of_last(k, hidden1, hidden2, inputs1, inputs2);
-    if last.kind != 0 {
-        return last;
+
+    // Γ of the parties that are open in both. By `find_map` the proof would not know what its closure returns.
+    fn of_parties(self) -> Option<Spot>
+        ensures { result ≡ first_between (cat self.entry.numbers.parties (on_party self.entry.numbers.m self.entry.numbers.parties self.entry.one.hidden self.entry.two.hidden)) self.entry }
+    {
+        for i in 0..self.numbers.parties {
+            if let Some(spot) = self.of_party(i) {
+                return Some(spot);
+            }
+        }
+        None
     }
-    of_rest(k, lists1, lists2, inputs1, inputs2)
+
+    // Ω, where N is open in both.
+    fn of_last(self) -> Option<Spot>
+        ensures { result ≡ first_between (on_last self.entry.numbers.m self.entry.numbers.parties self.entry.one.hidden self.entry.two.hidden) self.entry }
+    {
+        let m = self.numbers.m;
+        let parties = self.numbers.parties;
+        if !self.open_in_both(parties - 1) {
+            return None;
+        }
+        let from = 64 * parties + 4 * m;
+        self.first_of(&[Spot::opened(Kind::Omega, parties, from, 4 * m + 16)])
+    }
+
+    // hπ, Π, hψ and Ψ.
+    fn of_rest(self) -> Option<Spot>
+        ensures { result ≡ first_between (on_rest self.entry.numbers.m self.entry.numbers.parties self.entry.numbers.executions (self.entry.numbers.executions - self.entry.numbers.opened)) self.entry }
+    {
+        let m = self.numbers.m;
+        let parties = self.numbers.parties;
+        let executions = self.numbers.executions;
+        let kept = executions - self.numbers.opened;
+        let grid = 4 * m * parties;
+        let h_pi = Spot::listed(Kind::HPi, 32 * executions, 32 * kept);
+        let pi = Spot::opened(Kind::Pi, 0, 64 * parties + 8 * m + 16, grid + 16);
+        let h_psi = Spot::listed(Kind::HPsi, 32 * executions + 32 * kept, 32 * kept);
+        let psi = Spot::opened(
+            Kind::Psi,
+            0,
+            64 * parties + 8 * m + grid + 32,
+            4 * parties + 16,
+        );
+        self.first_of(&[h_pi, pi, h_psi, psi])
+    }
+
+    // The first two inputs that differ. By `or_else` the proof would not know what its closures return.
+    pub fn first_difference(self) -> Option<Spot>
+        ensures inside { IfSome result (λ r. Inside (lists_size self.entry.numbers.executions (self.entry.numbers.executions - self.entry.numbers.opened)) (execution_size self.entry.numbers.m self.entry.numbers.parties) r) }
+        ensures value { result ≡ first_between (on_all self.entry.numbers.m self.entry.numbers.parties self.entry.numbers.executions (self.entry.numbers.executions - self.entry.numbers.opened) self.entry.one.hidden self.entry.two.hidden) self.entry }
+    {
+        if let Some(spot) = self.of_hashes() {
+            return Some(spot);
+        }
+        if let Some(spot) = self.of_parties() {
+            return Some(spot);
+        }
+        if let Some(spot) = self.of_last() {
+            return Some(spot);
+        }
+        self.of_rest()
+    }
 }

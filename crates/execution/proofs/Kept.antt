@@ -2,14 +2,12 @@
 -- Assumes nothing.
 use Prim.Native.Nat.{ℕ, suc, ◌+◌, ◌*◌, ◌-◌, ◌^◌, ◌<◌, ◌≤◌}
 use mathlib.Core.Path.{◌≡◌, refl, sym, ◌∙◌, ap, subst}
-use mathlib.Core.Bool.{Bool, true, false}
 use mathlib.Core.List.{List}
 use native.Mathlib.Omega.{arith}
 use borrow.Author.Tests.{ne_eqb}
-use lib.Dec.{eqb}
 use lib.ListN.{length, get_or, take, drop, length-drop}
 use lib.Seq.{length-take-le, take_all}
-use Rattle.lists.specs.Index.{pick, cat, part}
+use Rattle.lists.specs.Index.{cat, part}
 use Rattle.lists.specs.Bytes.{num}
 use Rattle.tree.specs.Tree.{reopened}
 use Rattle.tree.specs.TreeLaws.{reopened-length}
@@ -25,16 +23,6 @@ use Rattle.execution.proofs.Dealt.{with_key, drawn_put, reduced_by, seed_at, sho
 pub rest_is : (n : ℕ) (xs : List ℕ) → take (length xs - n) (drop n xs) ≡ drop n xs
 rest_is n xs = take_all (length xs - n) (drop n xs) (simp length-drop (omega arith))
 
-pub rest_long : (n k : ℕ) (xs : List ℕ) → n + k ≤ length xs → k ≤ length (take (length xs - n) (drop n xs))
-rest_long n k xs h = rw (rest_is n xs, length-drop n xs) (omega arith)
-
-pub last-count_most : (m N hid : ℕ) → last_count m N hid ≤ 2 * m
-last-count_most m N hid = go (eqb (suc hid) N)
-  where
-    go : (t : Bool) → pick t 0 (2 * m) ≤ 2 * m
-    go true = omega arith
-    go false = omega arith
-
 -- the seeds were reopened, the open parties drew their numbers, and party N's were read
 pub record Reopened (q m N D hid : ℕ) (reply leaves one two : List ℕ) : Type 0 where
   pub full : 2 ^ D ≡ N
@@ -42,6 +30,13 @@ pub record Reopened (q m N D hid : ℕ) (reply leaves one two : List ℕ) : Type
   pub made : leaves ≡ cat (2 ^ D) (reopened D hid (take (16 * D) reply))
   pub drawn : Drawn q m N hid (3 * m) leaves one N
   pub put : Put (3 * m * (N - 1) + m) (last_count m N hid) (λ j. num (given_of D reply) (m + 1 + j)) one two
+
+pub is_reopened : {q m N D hid : ℕ} {reply leaves one two : List ℕ} → 2 ^ D ≡ N → 16 * D ≤ length reply
+    → leaves ≡ cat (2 ^ D) (reopened D hid (take (16 * D) reply)) → Drawn q m N hid (3 * m) leaves one N
+    → Put (3 * m * (N - 1) + m) (last_count m N hid) (λ j. num (take (length reply - (16 * D + 32)) (drop (16 * D + 32) reply)) (m + 1 + j)) one two
+    → Reopened q m N D hid reply leaves one two
+is_reopened {D = D} {reply = reply} full long made drawn put =
+    record { full = full; long = long; made = made; drawn = drawn; put = rw (rest_is (16 * D + 32) reply) at put }
 
 module _ (K : Key) (P : Parts) (e : ℕ) (leaves one two : List ℕ)
     (so : Reopened K.q K.m K.N (depth K) (hidden K P e) (reply_at K P e) leaves one two) where

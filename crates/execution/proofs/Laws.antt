@@ -13,7 +13,7 @@ use lib.Dec.{eqb}
 use lib.ListN.{length, get_or, take, drop, length-append, length-drop, length-set, set, get_or-append}
 use lib.Seq.{length-take-le, get_or-append-add, get_or-take, get_or-drop, get_or-set_same, get_or-set_other}
 use Rattle.lists.specs.Tab.{tab, tab-at, tab-length}
-use Rattle.lists.specs.Index.{pick}
+use Rattle.lists.specs.Index.{pick, part}
 use Rattle.execution.specs.Shown.{place_of}
 use Rattle.numbers.specs.Mod.{Cong, sub}
 use Rattle.numbers.proofs.Mod.{cong_eq, cong_trans, cong_mod, cong_mul, cong_same, cong_refl, sub_cong, sub-lt}
@@ -74,17 +74,14 @@ part-long xs a c h =
     rw e (length-take-le c (drop a xs) (simp length-drop (omega arith)))
 
 -- the same for a part that came back filled by a rule
-pub put_filled : (xs ys : List ℕ) (a c n : ℕ) (f : ℕ → ℕ) → a + c ≤ length xs → c ≡ n → ys ≡ tab (length (take (a + c - a) (drop a xs))) f
-    → Put a n f xs (take a xs ++ (ys ++ drop (a + c - a) (drop a xs)))
-put_filled xs ys a c n f h e g =
+pub put_filled : (xs ys : List ℕ) (a c : ℕ) (f : ℕ → ℕ) → a + c ≤ length xs → ys ≡ tab (length (take (a + c - a) (drop a xs))) f
+    → Put a c f xs (take a xs ++ (ys ++ drop (a + c - a) (drop a xs)))
+put_filled xs ys a c f h g =
     let z : a + c - a ≡ c = omega arith in
     let long : ys ≡ tab c f = rw (part-long xs a c h) at g in
-    rw (z, ← e) (put-part xs ys a c f h (rw long (tab-length c f)) (λ j k. rw long (tab-at c f j k)))
+    rw z (put-part xs ys a c f h (rw long (tab-length c f)) (λ j k. rw long (tab-at c f j k)))
 
 -- ---- the parties' numbers, party by party
-
-pub drawn_none : {q m N hid per : ℕ} (leaves work : List ℕ) → Drawn q m N hid per leaves work 0
-drawn_none leaves work = record { at = λ i j h. absurd (omega arith) }
 
 -- a hidden party draws nothing
 pub drawn_hidden : {q m N hid per : ℕ} {leaves work : List ℕ} {n : ℕ} → n ≡ hid → Drawn q m N hid per leaves work n → Drawn q m N hid per leaves work (n + 1)
@@ -92,24 +89,17 @@ drawn_hidden {q} {m} {N} {hid} {per} {leaves} {work} {n} e so =
     record { at = λ i j h other k. so.at i j (lt_of_le-ne (omega arith) (λ z. other (z ∙ e))) other k }
 
 -- party n has drawn its numbers, the others' stay
-pub drawn_next : {q m N hid per : ℕ} {leaves work after : List ℕ} {n : ℕ} → m ≤ per → per ≤ 3 * m
-    → Put (3 * m * n) (count_of m N per n) (number q (take (16 * n + 16 - 16 * n) (drop (16 * n) leaves)) 2) work after
+pub drawn_next : {q m N hid per : ℕ} {leaves seed work after : List ℕ} {n : ℕ} → m ≤ per → per ≤ 3 * m → seed ≡ part leaves (16 * n) 16
+    → Put (3 * m * n) (count_of m N per n) (number q seed 2) work after
     → Drawn q m N hid per leaves work n → Drawn q m N hid per leaves after (n + 1)
-drawn_next {q} {m} {N} {hid} {per} {leaves} {work} {after} {n} low high put so = record { at = at }
+drawn_next {q} {m} {N} {hid} {per} {leaves} {seed} {work} {after} {n} low high is put so = record { at = λ i j h other k. go i j (ℕ_discrete i n) h other k }
   where
-    sixteen : 16 * n + 16 - 16 * n ≡ 16
-    sixteen = omega arith
-
     go : (i j : ℕ) → Dec (i ≡ n) → i < n + 1 → (i ≡ hid → ⊥) → j < count_of m N per i
-        → get_or after (place_of m i j) 0 ≡ number q (take 16 (drop (16 * i) leaves)) 2 j
-    go i j (yes e) h other k = rw (e) (put.at j (rw (← e) k) ∙ ap (λ z. number q (take z (drop (16 * n) leaves)) 2 j) sixteen)
+        → get_or after (place_of m i j) 0 ≡ number q (part leaves (16 * i) 16) 2 j
+    go i j (yes e) h other k = rw e (put.at j (rw (← e) k) ∙ ap (λ z. number q z 2 j) is)
     go i j (no ne) h other k =
         let below : i < n = lt_of_le-ne (omega arith) ne in
         put.below (place_of m i j) (omega (arith, inside m n i below, count-le m N per i low)) ∙ so.at i j below other k
-
-    at : (i j : ℕ) → i < n + 1 → (i ≡ hid → ⊥) → j < count_of m N per i
-        → get_or after (place_of m i j) 0 ≡ number q (take 16 (drop (16 * i) leaves)) 2 j
-    at i j h other k = go i j (ℕ_discrete i n) h other k
 
 -- a sum and its next term
 pub sum_step : (total x i : ℕ) (f : ℕ → ℕ) → total ≡ sum i f → x ≡ f i → total + x ≡ sum (i + 1) f
@@ -118,8 +108,8 @@ sum_step total x i f e h = rw (add-one i, e, h)
 
 -- ---- a list filled in place, from a place on
 
-pub put-none : (a : ℕ) (f : ℕ → ℕ) (xs : List ℕ) → Put a 0 f xs xs
-put-none a f xs = record { long = refl; at = λ j h. absurd (omega arith); below = λ x h. refl; above = λ x h. refl }
+pub put_none : (a : ℕ) (f : ℕ → ℕ) (xs : List ℕ) → Put a 0 f xs xs
+put_none a f xs = record { long = refl; at = λ j h. absurd (omega arith); below = λ x h. refl; above = λ x h. refl }
 
 pub put_next : {a n : ℕ} {f : ℕ → ℕ} {xs ys : List ℕ} {x : ℕ} → Put a n f xs ys → a + n < length ys → x ≡ f n → Put a (n + 1) f xs (set ys (a + n) x)
 put_next {a} {n} {f} {xs} {ys} {x} so h e =
@@ -135,10 +125,6 @@ put_next {a} {n} {f} {xs} {ys} {x} so h e =
     at j (no ne) k = get_or-set_other ys (a + n) (a + j) x 0 (λ z. ne (omega arith)) ∙ so.at j (lt_of_le-ne (omega arith) ne)
 
 -- ---- columns
-
--- number j of each of n parties stands in the list
-pub column_in : (m N n j long : ℕ) → n ≤ N → j < 3 * m → 3 * m * N ≤ long → (i : ℕ) → i < n → 3 * m * i + j < long
-column_in m N n j long h k r i y = omega (arith, inside m n i y, mul-le-mul_left (3 * m) h)
 
 -- a column below a place does not change with what is put from that place on
 pub column-same : (m n j a : ℕ) (xs ys : List ℕ) → ((x : ℕ) → x < a → get_or ys x 0 ≡ get_or xs x 0) → ((i : ℕ) → i < n → 3 * m * i + j < a)

@@ -4,3 +4,6 @@
 pub mod commit;
 pub mod prepare;
 pub mod shares;
+mod sizes;
+
+pub use sizes::{Dealing, Evaluation, Lists, OpenShares, Sharing, Statement};

@@ -1,163 +1,134 @@
 // The shares of one execution in a lent work list: party i's b, d and s stand from place 3m·i on, m numbers each.
 
-ghost use Rattle.std.specs.Prelude.{◌≡◌, ℕ, ◌+◌, ◌*◌, ◌-◌, ◌<◌, ◌≤◌, length, get_or};
+ghost use Rattle.std.specs.Prelude.{◌≡◌, ℕ, ◌+◌, ◌*◌, ◌-◌, ◌^◌, ◌<◌, ◌≤◌, length, get_or};
 ghost use Rattle.numbers.specs.Sum.{sum};
 ghost use Rattle.numbers.specs.Residue.{Residue};
 ghost use Rattle.streams.specs.Streams.{number};
-ghost use Rattle.execution.specs.Shown.{Limits};
 ghost use Rattle.execution.specs.Lists.{Put, count_of, Drawn, last_d, last_s};
+
+use crate::Sharing;
+use numbers::Modulus;
 
 // How many numbers party i draws.
 fn count_of(m: usize, parties: usize, per: usize, i: usize) -> usize
     requires { i < parties }
     ensures { result ≡ count_of m parties per i }
 {
-    if i + 1 == parties {
-        return m;
-    }
-    per
+    if i + 1 == parties { m } else { per }
 }
 
-// Party i's numbers, from its seed.
-pub fn draw_party(
-    q: u32,
-    m: usize,
-    parties: usize,
-    per: usize,
-    i: usize,
-    seed: &[u8],
+// `count` numbers of a seed, from its block `first` on, to the work list from place `from` on.
+#[tactic(auto, using(crate::proofs::Laws::put_filled))]
+pub fn draw(
+    modulus: Modulus,
+    seed: &[u8; 16],
+    first: u64,
+    from: usize,
+    count: usize,
     work: &mut [u32],
 )
-    requires limits { Limits q m parties }
-    requires seed_len { length seed.now ≡ 16 }
-    requires m_le_per { (m ≤ per) × (per ≤ 3 * m) }
-    requires i_lt_parties { i < parties }
-    requires parties_in_bounds { 3 * m * parties ≤ length work.old }
-    ensures { Put (3 * m * i) (count_of m parties per i) (number q seed.now 2) work.old work.new }
+    requires first_bound { first < 2 ^ 62 }
+    requires count_bound { count < 2 ^ 32 }
+    requires count_in_bounds { from + count ≤ length work.old }
+    ensures { Put from count (number modulus.q seed.now first) work.old work.new }
 {
-    let count = count_of(m, parties, per, i);
-    let from = 3 * m * i;
-    let to = from + count;
-    streams::fill(seed, 2, q, &mut work[from..to]);
+    streams::fill(seed, first, modulus, &mut work[from..from + count]);
 }
 
-// Party i's numbers, if it is not hidden.
-fn draw_open(
-    q: u32,
-    m: usize,
-    parties: usize,
-    hidden: usize,
-    per: usize,
-    i: usize,
-    leaves: &[u8],
-    work: &mut [u32],
-)
-    requires limits { Limits q m parties }
-    requires leaves_len { length leaves.now ≡ 16 * parties }
-    requires m_le_per { (m ≤ per) × (per ≤ 3 * m) }
-    requires i_lt_parties { i < parties }
-    requires parties_in_bounds { 3 * m * parties ≤ length work.old }
-    ensures drawn { (n : ℕ) → n ≡ i → Drawn q m parties hidden per leaves.now work.old n → Drawn q m parties hidden per leaves.now work.new (n + 1) }
-    ensures work_len_unchanged { length work.new ≡ length work.old }
+// Party i's numbers, from its seed: `per` of them, party N's m.
+pub fn draw_party(sharing: Sharing, per: usize, i: usize, seed: &[u8; 16], work: &mut [u32])
+    requires per_bounds { (sharing.m ≤ per) × (per ≤ 3 * sharing.m) }
+    requires i_lt_parties { i < sharing.parties }
+    requires work_long { 3 * sharing.m * sharing.parties ≤ length work.old }
+    ensures { Put (3 * sharing.m * i) (count_of sharing.m sharing.parties per i) (number sharing.modulus.q seed.now 2) work.old work.new }
 {
-    if i == hidden {
-        return;
-    }
-    let from = 16 * i;
-    let to = from + 16;
-    draw_party(q, m, parties, per, i, &leaves[from..to], work);
+    let count = count_of(sharing.m, sharing.parties, per, i);
+    draw(sharing.modulus, seed, 2, 3 * sharing.m * i, count, work);
 }
 
 // Each open party's numbers, from its seed: `per` of them, party N's m.
-pub fn draw_shares(
-    q: u32,
-    m: usize,
-    parties: usize,
-    hidden: usize,
-    per: usize,
-    leaves: &[u8],
-    work: &mut [u32],
-)
-    requires limits { Limits q m parties }
-    requires leaves_len { length leaves.now ≡ 16 * parties }
-    requires m_le_per { (m ≤ per) × (per ≤ 3 * m) }
-    requires parties_in_bounds { 3 * m * parties ≤ length work.old }
-    ensures drawn { Drawn q m parties hidden per leaves.now work.new parties }
+#[tactic(auto, using(crate::proofs::Laws::drawn_hidden, crate::proofs::Laws::drawn_next))]
+pub fn draw_shares(sharing: Sharing, hidden: usize, per: usize, leaves: &[u8], work: &mut [u32])
+    requires leaves_long { length leaves.now ≡ 16 * sharing.parties }
+    requires per_bounds { (sharing.m ≤ per) × (per ≤ 3 * sharing.m) }
+    requires work_long { 3 * sharing.m * sharing.parties ≤ length work.old }
+    ensures drawn { Drawn sharing.modulus.q sharing.m sharing.parties hidden per leaves.now work.new sharing.parties }
     ensures work_len_unchanged { length work.new ≡ length work.old }
 {
-    for i in 0..parties {
-        draw_open(q, m, parties, hidden, per, i, leaves, work);
+    for i in 0..sharing.parties {
+        if i != hidden {
+            let seed = leaves[16 * i..16 * i + 16].try_into().unwrap();
+            draw_party(sharing, per, i, seed, work);
+        }
     }
 }
 
 // The sum of `count` numbers, `stride` apart.
+#[tactic(auto, using(crate::proofs::Laws::sum_step), unfolding(numbers::specs::Sum::sum))]
 pub fn column(work: &[u32], start: usize, stride: usize, count: usize) -> u64
     requires count_bound { (count ≤ 32) × (stride ≤ 384) × (start ≤ 12288) }
     requires within { (i : ℕ) → i < count → stride * i + start < length work.now }
     ensures { result ≡ sum count (λ i. get_or work.now (stride * i + start) 0) }
 {
-    let mut total: u64 = 0;
-    let mut at = start;
-    for _ in 0..count {
-        total += wide(work[at]);
-        at += stride;
+    let mut total = 0;
+    for i in 0..count {
+        total += u64::from(work[stride * i + start]);
     }
     total
 }
 
-fn wide(x: u32) -> u64
-    ensures { (result ≡ x) × (result < 4294967296) }
-{
-    x as u64
-}
-
 // d(k) of party N: the square of the sum of all b, less the other d's.
-fn last_d(q: u32, m: usize, parties: usize, k: usize, work: &[u32]) -> u32
-    requires limits { Limits q m parties }
-    requires k_lt_m { k < m }
-    requires parties_in_bounds { 3 * m * parties ≤ length work.now }
-    ensures { Residue q (last_d q m parties work.now k) result }
+#[tactic(auto, using(crate::proofs::Laws::last_d_is, numbers::proofs::Inverse::q_positive), unfolding(crate::specs::Lists::last_d))]
+fn last_d(sharing: Sharing, k: usize, work: &[u32]) -> u32
+    requires k_lt_m { k < sharing.m }
+    requires work_long { 3 * sharing.m * sharing.parties ≤ length work.now }
+    ensures { Residue sharing.modulus.q (last_d sharing.modulus.q sharing.m sharing.parties work.now k) result }
 {
-    let b = numbers::reduced(column(work, k, 3 * m, parties), q);
-    let d = numbers::reduced(column(work, m + k, 3 * m, parties - 1), q);
-    let square = numbers::mul_mod(b, b, q);
-    numbers::sub_mod(square, d, q)
+    let Sharing {
+        modulus,
+        m,
+        parties,
+    } = sharing;
+    let b = modulus.reduced(column(work, k, 3 * m, parties));
+    let d = modulus.reduced(column(work, m + k, 3 * m, parties - 1));
+    modulus.sub(modulus.mul(b, b), d)
 }
 
 // s(k) of party N: the secret entry less the other s's.
-fn last_s(q: u32, m: usize, parties: usize, k: usize, entry: u8, work: &[u32]) -> u32
-    requires limits { Limits q m parties }
-    requires k_lt_m { k < m }
-    requires parties_in_bounds { 3 * m * parties ≤ length work.now }
-    ensures { Residue q (last_s q m parties work.now entry k) result }
+#[tactic(auto, using(crate::proofs::Laws::last_s_is, numbers::proofs::Inverse::q_positive), unfolding(crate::specs::Lists::last_s))]
+fn last_s(sharing: Sharing, k: usize, entry: u8, work: &[u32]) -> u32
+    requires k_lt_m { k < sharing.m }
+    requires work_long { 3 * sharing.m * sharing.parties ≤ length work.now }
+    ensures { Residue sharing.modulus.q (last_s sharing.modulus.q sharing.m sharing.parties work.now entry k) result }
 {
-    let s = numbers::reduced(column(work, 2 * m + k, 3 * m, parties - 1), q);
-    numbers::sub_mod(entry as u32, s, q)
+    let Sharing {
+        modulus,
+        m,
+        parties,
+    } = sharing;
+    let s = modulus.reduced(column(work, 2 * m + k, 3 * m, parties - 1));
+    modulus.sub(u32::from(entry), s)
 }
 
 // Party N's d, from the other numbers in the list.
-pub fn deal_d(q: u32, m: usize, parties: usize, work: &mut [u32])
-    requires limits { Limits q m parties }
-    requires parties_in_bounds { 3 * m * parties ≤ length work.old }
-    ensures { Put (3 * m * (parties - 1) + m) m (last_d q m parties work.old) work.old work.new }
+pub fn deal_d(sharing: Sharing, work: &mut [u32])
+    requires work_long { 3 * sharing.m * sharing.parties ≤ length work.old }
+    ensures { Put (3 * sharing.m * (sharing.parties - 1) + sharing.m) sharing.m (last_d sharing.modulus.q sharing.m sharing.parties work.old) work.old work.new }
 {
-    let from = 3 * m * (parties - 1) + m;
-    for k in 0..m {
-        let d = last_d(q, m, parties, k, work);
-        work[from + k] = d;
+    let from = 3 * sharing.m * (sharing.parties - 1) + sharing.m;
+    for k in 0..sharing.m {
+        work[from + k] = last_d(sharing, k, work);
     }
 }
 
 // Party N's s, from the other numbers in the list and the secret.
-pub fn deal_s(q: u32, m: usize, parties: usize, secret: &[u8], work: &mut [u32])
-    requires limits { Limits q m parties }
-    requires secret_len { length secret.now ≡ m }
-    requires parties_in_bounds { 3 * m * parties ≤ length work.old }
-    ensures { Put (3 * m * (parties - 1) + 2 * m) m (λ k. last_s q m parties work.old (get_or secret.now k 0) k) work.old work.new }
+pub fn deal_s(sharing: Sharing, secret: &[u8], work: &mut [u32])
+    requires secret_long { length secret.now ≡ sharing.m }
+    requires work_long { 3 * sharing.m * sharing.parties ≤ length work.old }
+    ensures { Put (3 * sharing.m * (sharing.parties - 1) + 2 * sharing.m) sharing.m (λ k. last_s sharing.modulus.q sharing.m sharing.parties work.old (get_or secret.now k 0) k) work.old work.new }
 {
-    let from = 3 * m * (parties - 1) + 2 * m;
-    for k in 0..m {
-        let s = last_s(q, m, parties, k, secret[k], work);
-        work[from + k] = s;
+    let from = 3 * sharing.m * (sharing.parties - 1) + 2 * sharing.m;
+    for (k, &entry) in secret.iter().enumerate() {
+        work[from + k] = last_s(sharing, k, entry, work);
     }
 }

@@ -10,7 +10,7 @@ use native.Mathlib.Omega.{arith}
 use native.Mathlib.Decide.{ℕ_discrete}
 use borrow.Author.Tests.{eq-eqb, ne_eqb}
 use lib.Dec.{eqb}
-use lib.ListN.{length, take, drop, length-append, length-drop, drop_of_length-le}
+use lib.ListN.{length, take, drop, length-append, drop_of_length-le}
 use Rattle.lists.specs.Index.{cat, pick, part}
 use Rattle.lists.specs.Tab.{tab}
 use Rattle.lists.specs.Bytes.{words}
@@ -28,7 +28,7 @@ use Rattle.views.specs.Seen.{gamma_open, gamma_at, ForH, ForΩ}
 use Rattle.views.proofs.Laws.{d_part, h_is, omega_is, psi_is}
 use Rattle.outputs.specs.Stated.{Stated}
 use Rattle.kept.specs.Kept.{KeptIn}
-use Rattle.kept.proofs.Laws.{to_end, kept_for_h, kept_for_Ω}
+use Rattle.kept.proofs.Laws.{kept_for_h, kept_for_Ω}
 use Rattle.inputs.specs.Layout.{Γ_from, Γ_size, Ω_from, Π_from, Ψ_from, execution_size, Written}
 use Rattle.inputs.specs.Steps.{gamma_in, omega_in}
 
@@ -36,9 +36,6 @@ use Rattle.inputs.specs.Steps.{gamma_in, omega_in}
 -- row k of m rows of w bytes ends within them
 pub row_ends : (w m k at : ℕ) → at ≡ w * k → k < m → at + w ≤ w * m
 row_ends w m k at e h = let z : w * suc k ≤ w * m = mul-le-mul_left w h in omega arith
-
-pub row_next : (w k at : ℕ) → at ≡ w * k → at + w ≡ w * (k + 1)
-row_next w k at e = omega arith
 
 -- ---- the inputs
 pub pi_label : (e : ℕ) (x : List ℕ) → x ≡ input 6 e 0 x
@@ -126,10 +123,9 @@ module _ (m N e : ℕ) (leaves work : List ℕ) (l : length leaves ≡ 16 * N) (
 omega_shown : {m N e : ℕ} {leaves work : List ℕ} {K : Key} {v : View} → ForΩ m N e leaves work K v → 1 ≤ N → 3 * m * N ≤ length work → omega_in m N e leaves work ≡ Ωin K v
 unfolding omega_in
 omega_shown {m} {N} {e} {leaves} {work} so some r =
-    let x : 16 ≡ 16 * (N - 1) + 16 - 16 * (N - 1) = omega arith in
     let y : m ≡ 3 * m * (N - 1) + 2 * m + m - (3 * m * (N - 1) + 2 * m) = omega arith in
-    ap₂ (λ (a b : ℕ). input 4 (e + 1) N (words (take a (drop (3 * m * (N - 1) + 2 * m) work)) ++ block (take b (drop (16 * (N - 1)) leaves)) 1)) y x
-    ∙ omega_is so some r
+    ap (λ (a : ℕ). input 4 (e + 1) N (words (take a (drop (3 * m * (N - 1) + 2 * m) work)) ++ block (part leaves (16 * (N - 1)) 16) 1)) y
+    ∙ omega_is so some r refl
 
 -- ---- five lists in a row
 module _ (a b c d f : List ℕ) where
@@ -154,6 +150,10 @@ module _ (a b c d f : List ℕ) where
   fifth_of i n h k =
       ap (λ (x : List ℕ). part x i n) (sym (append_assoc (a ++ b) c (d ++ f)) ∙ sym (append_assoc ((a ++ b) ++ c) d f))
       ∙ part-last (((a ++ b) ++ c) ++ d) f i n h k
+
+-- the same list, its parts written one after the other
+pub in_row : {a b c d f a' b' c' d' f' : List ℕ} → a ≡ a' → b ≡ b' → c ≡ c' → d ≡ d' → f ≡ f' → a ++ (b ++ (c ++ (d ++ f))) ≡ row a' b' c' d' f'
+in_row {a' = a'} {b'} {c'} {d'} {f'} h i j k l = rw (h, i, j, k, l) (sym (append_assoc a' b' (c' ++ (d' ++ f'))))
 
 -- ---- the whole
 module _ {q n m N D hid e : ℕ} {reply kappa seed entries : List ℕ} {K : Key} {P : Parts} (so : KeptIn q n m N D hid e reply kappa seed entries K P) {leaves work : List ℕ}
@@ -254,7 +254,3 @@ module _ {q n m N D hid e : ℕ} {reply kappa seed entries : List ℕ} {K : Key}
   laid_out is =
       let z : 16 * D + 32 - 16 * D ≡ 32 = omega arith in
       is ∙ ap (λ (w : ℕ). row (input 2 (e + 1) 0 (cat N (gamma_at m N hid e (take w (drop (16 * D) reply)) leaves work))) gs os ps ws) z
-
--- what stands from a place to the end
-pub rest_long : (x : List ℕ) (a n : ℕ) → a + n ≤ length x → n ≤ length (take (length x - a) (drop a x))
-rest_long x a n h = omega (arith, ap length (to_end x a), length-drop a x)

@@ -1,68 +1,45 @@
 -- From a spot and the joined values to what the pair reader answers.
 -- Assumes nothing.
-use Prim.Native.Nat.{ℕ, suc, ◌+◌, ◌*◌, ◌-◌, ◌≤◌}
+use Prim.Native.Nat.{ℕ, suc, ◌+◌, ◌≤◌}
 use mathlib.Core.Path.{◌≡◌, refl, sym, ◌∙◌, ap, subst}
 use mathlib.Core.Bool.{Bool, true, false}
-use mathlib.Core.Logic.{⊎_elim}
 use mathlib.Core.List.{List, ◌++◌}
 use native.Mathlib.Numerals.{add-one}
-use native.Mathlib.Nat.{mul-le-mul}
 use native.Mathlib.Omega.{arith}
-use borrow.Author.Tests.{eq-eqb, ne_eqb}
+use Rattle.std.specs.Prelude.{Some, None, Result, Ok}
 use lib.Dec.{ltb}
-use lib.ListN.{length, take, drop}
-use Rattle.lists.specs.Index.{pick, part}
-use Rattle.lists.specs.TestLaws.{decide, pick_true, pick_false}
+use lib.ListN.{length, drop}
+use Rattle.lists.specs.Index.{pick}
 use Rattle.lists.specs.CatLaws.{part_length}
 use Rattle.protocol.specs.Key.{Key, kept_count}
 use Rattle.protocol.specs.Transcript.{Parts}
 use Rattle.protocol.specs.Pair.{Reading, refusal, collision, secret, square, errors, first_different, comparisons, values, found_as, value_list}
-use Rattle.inputs.specs.Layout.{execution_size}
+use Rattle.compare.specs.declared.Kind.{Kind}
+use Rattle.compare.specs.declared.Source.{Source}
+use Rattle.compare.specs.declared.Source.TheVariants.{Lists, Execution}
 use Rattle.compare.specs.declared.Spot.{Spot}
-use Rattle.compare.specs.Spots.{Inside, shown, first_spot, on_all}
-use Rattle.compare.proofs.Laws.{read_at, first_read}
-use Rattle.reading.specs.declared.Reading as code
-use Rattle.reading.specs.declared.Reading.TheVariants.{Collision}
+use Rattle.compare.specs.Kinds.{number}
+use Rattle.compare.specs.Spots.{Inside, sourced, shown, first_spot, read_at, on_all}
+use Rattle.compare.proofs.Laws.{first_read}
+use Rattle.refusals.specs.declared.Refusal.{Refusal}
+use Rattle.reading.specs.declared.Finding.{Finding}
+use Rattle.reading.specs.declared.Finding.TheVariants.{Collision}
 use Rattle.reading.specs.Answers.{hash1_of, hash2_of}
 use Rattle.reading.specs.Found.{wrong_at, is_secret, found, Finds, values_found}
 use Rattle.finding.specs.Known.{Known, found_in}
 use Rattle.finding.specs.Reads.{Reads}
 
-pub size_most : (m N : ℕ) → m ≤ 128 → N ≤ 32 → execution_size m N ≤ 19632
-size_most m N h l = omega (arith, mul-le-mul {n₁ = 4 * m} {m₁ = N} {n₂ = 512} {m₂ = 32} (omega arith) l)
-
 -- ---- a spot in its list
-module _ (a b : ℕ) (r : Spot) (i : Inside a b r) where
-  pub in_lists : r.listed ≡ true → r.from + r.length ≤ a
-  in_lists t = subst (λ (n : ℕ). r.from + r.length ≤ n) (pick_true r.listed a b t) i.within
+sourced_length : (s : Source) (l x : List ℕ) → length (sourced s l x) ≡ sourced s (length l) (length x)
+sourced_length Lists l x = refl
+sourced_length Execution l x = refl
 
-  pub in_inputs : r.listed ≡ false → r.from + r.length ≤ b
-  in_inputs t = subst (λ (n : ℕ). r.from + r.length ≤ n) (pick_false r.listed a b t) i.within
-
-  pub spot_most : a ≤ 3072 → b ≤ 19632 → r.from + r.length ≤ 19632
-  spot_most h l = ⊎_elim (λ t. omega (arith, in_lists t)) (λ t. omega (arith, in_inputs t)) (decide r.listed)
+pub shown-long : (r : Spot) (l x : List ℕ) → Inside (length l) (length x) r → length (shown r l x) ≡ r.length
+shown-long r l x i =
+    part_length (sourced r.source l x) r.from r.length (omega (arith, i.within, sourced_length r.source l x))
 
 pub inside-at : {a b c d : ℕ} (r : Spot) → a ≡ c → b ≡ d → Inside c d r → Inside a b r
 inside-at {a} {b} {c} {d} r e f i = subst (λ (n : ℕ). Inside n b r) (sym e) (subst (λ (n : ℕ). Inside c n r) (sym f) i)
-
-module _ (r : Spot) (l x : List ℕ) where
-  pub shown_lists : r.listed ≡ true → take (r.from + r.length - r.from) (drop r.from l) ≡ shown r l x
-  shown_lists t =
-      let w : r.from + r.length - r.from ≡ r.length = omega arith in
-      ap (λ (n : ℕ). take n (drop r.from l)) w ∙ ap (λ (y : List ℕ). part y r.from r.length) (sym (pick_true r.listed l x t))
-
-  pub shown_inputs : r.listed ≡ false → take (r.from + r.length - r.from) (drop r.from x) ≡ shown r l x
-  shown_inputs t =
-      let w : r.from + r.length - r.from ≡ r.length = omega arith in
-      ap (λ (n : ℕ). take n (drop r.from x)) w ∙ ap (λ (y : List ℕ). part y r.from r.length) (sym (pick_false r.listed l x t))
-
-  pub shown-long : Inside (length l) (length x) r → length (shown r l x) ≡ r.length
-  shown-long i =
-      part_length (pick r.listed l x) r.from r.length
-      (⊎_elim
-      (λ t. subst (λ (y : List ℕ). r.from + r.length ≤ length y) (sym (pick_true r.listed l x t)) (in_lists (length l) (length x) r i t))
-      (λ t. subst (λ (y : List ℕ). r.from + r.length ≤ length y) (sym (pick_false r.listed l x t)) (in_inputs (length l) (length x) r i t))
-      (decide r.listed))
 
 -- ---- what is read
 -- findings 2 to 4 leave both hash buffers
@@ -96,7 +73,7 @@ found_plain : (K : Key) (e : ℕ) (x : List ℕ) → Plain (found K e x)
 unfolding found
 found_plain K e x = plain_pick (is_secret K x) (ltb (wrong_at K.q K.m x) K.m) _ _ _ tt tt tt
 
-pub reads_found : (K : Key) (e : ℕ) (sums : List ℕ) {x : Reading} {r : code.Reading} (h1 h2 : List ℕ) {bits bits' errs errs' : List ℕ} → x ≡ found K e sums
+pub reads_found : (K : Key) (e : ℕ) (sums : List ℕ) {x : Reading} {r : Result Finding Refusal} (h1 h2 : List ℕ) {bits bits' errs errs' : List ℕ} → x ≡ found K e sums
     → Finds (found K e sums) r bits bits' errs errs' → Reads x r h1 h1 h2 h2 bits bits' errs errs'
 reads_found K e sums {x} {r} h1 h2 {bits} {bits'} {errs} {errs'} is f =
     subst (λ (y : Reading). Reads y r h1 h1 h2 h2 bits bits' errs errs') (sym is)
@@ -109,13 +86,13 @@ reads_found K e sums {x} {r} h1 h2 {bits} {bits'} {errs} {errs'} is f =
     })
 
 -- a collision leaves the secret output and the u and v list
-pub reads_collision : (kind e party n : ℕ) (one two h1 h2 bits errs : List ℕ) {x : Reading} {ys zs : List ℕ} → x ≡ collision kind (suc e) party one two
+pub reads_collision : (kind : Kind) (e party n : ℕ) (one two h1 h2 bits errs : List ℕ) {x : Reading} {ys zs : List ℕ} → x ≡ collision (number kind) (suc e) party one two
     → length one ≡ n → length two ≡ n → ys ≡ one → zs ≡ two
-    → Reads x (Collision kind (e + 1) party n) h1 (ys ++ drop n h1) h2 (zs ++ drop n h2) bits bits errs errs
+    → Reads x (Ok (Collision kind (e + 1) party n)) h1 (ys ++ drop n h1) h2 (zs ++ drop n h2) bits bits errs errs
 reads_collision kind e party n one two h1 h2 bits errs {x} {ys} {zs} is l1 l2 e1 e2 =
-    subst (λ (y : Reading). Reads y (Collision kind (e + 1) party n) h1 (ys ++ drop n h1) h2 (zs ++ drop n h2) bits bits errs errs) (sym is)
+    subst (λ (y : Reading). Reads y (Ok (Collision kind (e + 1) party n)) h1 (ys ++ drop n h1) h2 (zs ++ drop n h2) bits bits errs errs) (sym is)
     (record {
-      answer = λ i. found_as 1 (value_list kind (add-one e i) party (l1' i) 0 0 0);
+      answer = λ i. found_as 1 (value_list (number kind) (add-one e i) party (l1' i) 0 0 0);
       hash1 = λ i. e1 i ++ drop (l1' i) h1;
       hash2 = λ i. e2 i ++ drop (l2' i) h2;
       secret = refl;
@@ -130,18 +107,14 @@ reads_collision kind e party n one two h1 h2 bits errs {x} {ys} {zs} is l1 l2 e1
 
 -- ---- what is found in the lists
 module _ (K : Key) (e h1 h2 : ℕ) (l1 l2 i1 i2 sums : List ℕ) where
-  -- where the first spot is r
-  module _ {r : Spot} (is : r ≡ first_spot (on_all K.m K.N K.M (kept_count K) h1 h2) l1 l2 i1 i2) where
-    at_spot : found_in K e h1 h2 l1 l2 i1 i2 sums ≡ read_at l1 l2 i1 i2 (suc e) (found K e sums) r
-    unfolding found_in
-    at_spot = ap (read_at l1 l2 i1 i2 (suc e) (found K e sums)) (sym is)
+  pub in_none : None ≡ first_spot (on_all K.m K.N K.M (kept_count K) h1 h2) l1 l2 i1 i2 → found_in K e h1 h2 l1 l2 i1 i2 sums ≡ found K e sums
+  unfolding found_in
+  in_none z = ap (read_at l1 l2 i1 i2 (suc e) (found K e sums)) (sym z)
 
-    pub in_none : r.kind ≡ 0 → found_in K e h1 h2 l1 l2 i1 i2 sums ≡ found K e sums
-    in_none z = at_spot ∙ pick_true _ _ _ (eq-eqb r.kind 0 z)
-
-    pub in_spot : (r.kind ≡ 0 → ⊥)
-        → found_in K e h1 h2 l1 l2 i1 i2 sums ≡ collision r.kind (suc e) r.party (shown r l1 i1) (shown r l2 i2)
-    in_spot n = at_spot ∙ pick_false _ _ _ (ne_eqb r.kind 0 n)
+  pub in_spot : (r : Spot) → Some r ≡ first_spot (on_all K.m K.N K.M (kept_count K) h1 h2) l1 l2 i1 i2
+      → found_in K e h1 h2 l1 l2 i1 i2 sums ≡ collision (number r.kind) (suc e) r.party (shown r l1 i1) (shown r l2 i2)
+  unfolding found_in
+  in_spot r z = ap (read_at l1 l2 i1 i2 (suc e) (found K e sums)) (sym z)
 
   -- Where the lists hold the hash inputs and joined values of two transcripts, it is the finding of document 01.
   pub known_found : (P R : Parts) → 2 ≤ K.N → Known K P R e h1 h2 l1 l2 i1 i2 sums
@@ -152,7 +125,7 @@ module _ (K : Key) (e h1 h2 : ℕ) (l1 l2 i1 i2 sums : List ℕ) where
       (ap (first_different (suc e) (comparisons K P R e)) (values_found K P R e sums k.joined)
       ∙ first_read K P R e h1 h2 l1 l2 i1 i2 k.listed1 k.listed2 k.written1 k.written2 k.hides1 k.hides2 k.kept1 k.kept2 two (found K e sums))
 
-pub reads_known : {K : Key} {P R : Parts} {e h1 h2 : ℕ} {l1 l2 i1 i2 sums a a' b b' bits bits' errs errs' : List ℕ} {r : code.Reading}
+pub reads_known : {K : Key} {P R : Parts} {e h1 h2 : ℕ} {l1 l2 i1 i2 sums a a' b b' bits bits' errs errs' : List ℕ} {r : Result Finding Refusal}
     → Reads (found_in K e h1 h2 l1 l2 i1 i2 sums) r a a' b b' bits bits' errs errs' → 2 ≤ K.N → Known K P R e h1 h2 l1 l2 i1 i2 sums
     → Reads (first_different (suc e) (comparisons K P R e) (values K P R e)) r a a' b b' bits bits' errs errs'
 reads_known {K} {P} {R} {e} {h1} {h2} {l1} {l2} {i1} {i2} {sums} {a} {a'} {b} {b'} {bits} {bits'} {errs} {errs'} {r} so two k =

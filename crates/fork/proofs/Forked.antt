@@ -23,7 +23,7 @@ use Rattle.protocol.specs.Pair.{execution, same_front}
 use Rattle.protocol.specs.Accepts.{GoodKey, GoodParts}
 use Rattle.protocol.proofs.Facts.{run_facts}
 use Rattle.protocol.proofs.Demand3.{works}
-use Rattle.key.specs.declared.Numbers.{Numbers}
+use Rattle.key.specs.declared.sizes.Numbers.{Numbers}
 use Rattle.key.specs.Numbers.{Read}
 use Rattle.key.specs.KeyLaws.{entries_of}
 use Rattle.transcript.specs.Replies.{reply-within}

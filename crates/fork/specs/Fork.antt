@@ -12,7 +12,7 @@ use Rattle.protocol.specs.Key.{Key}
 use Rattle.protocol.specs.Prover.{opened, hidden_of}
 use Rattle.protocol.specs.Transcript.{Parts, sizes, good_header}
 use Rattle.protocol.specs.Judge.{hidden, reply_size, run_checks}
-use Rattle.key.specs.declared.Numbers.{Numbers}
+use Rattle.key.specs.declared.sizes.Numbers.{Numbers}
 use Rattle.key.specs.Numbers.{Of}
 
 -- the header of x is good for the numbers k

@@ -5,51 +5,46 @@ ghost use Rattle.std.specs.Prelude.{◌≡◌, false, ◌≤◌, ◌<◌};
 ghost use Rattle.lists.specs.Index.{same};
 ghost use Rattle.protocol.specs.Key.{Key};
 ghost use Rattle.protocol.specs.Prover.{opened, place, hidden_of};
-ghost use Rattle.protocol.specs.Transcript.{Parts, parts_of};
+ghost use Rattle.protocol.specs.Transcript.{Parts};
 ghost use Rattle.protocol.specs.Judge.{reply_size};
 ghost use Rattle.protocol.specs.Pair.{execution, same_front};
-ghost use Rattle.key.specs.Numbers.{Of, Limits};
-ghost use Rattle.fork.specs.Fork.{Headed, differs};
+ghost use Rattle.key.specs.Numbers.{Of};
+ghost use Rattle.transcript.specs.Seen.{seen};
+ghost use Rattle.fork.specs.Fork.{differs};
 
 use bytes4::same_bytes;
 use forms::is_opened;
 use key::Numbers;
-use transcript::{hidden_at, part_start, reply_size};
+use transcript::{FileParts, hidden_at, reply_size};
 
 // Parts 1 to 5 of two files are equal.
-pub fn same_front(k: Numbers, x: &[u8], y: &[u8]) -> bool
-    requires limits { Limits k }
-    requires headed { Headed k x.now }
-    requires headed_2 { Headed k y.now }
-    ensures { (K : Key) → result ≡ same_front K (parts_of x.now) (parts_of y.now) }
+#[tactic(auto, unfolding(protocol::specs::Pair::same_front, lists::specs::Index::holds))]
+pub fn same_front(x: FileParts, y: FileParts) -> bool
+    ensures { (K : Key) → result ≡ same_front K (seen x.entry) (seen y.entry) }
 {
-    let to = part_start(k, 5);
-    same_bytes(&x[56..to], &y[56..to])
+    same_bytes(x.p1, y.p1)
+        && same_bytes(x.p2, y.p2)
+        && same_bytes(x.p3, y.p3)
+        && same_bytes(x.p4, y.p4)
+        && same_bytes(x.p5, y.p5)
 }
 
 // The hidden lists of two files are equal.
-pub fn same_hidden(k: Numbers, x: &[u8], y: &[u8]) -> bool
-    requires limits { Limits k }
-    requires headed { Headed k x.now }
-    requires headed_2 { Headed k y.now }
-    ensures { result ≡ same (parts_of x.now).p6 (parts_of y.now).p6 }
+pub fn same_hidden(x: FileParts, y: FileParts) -> bool
+    ensures { result ≡ same (seen x.entry).p6 (seen y.entry).p6 }
 {
-    let from = part_start(k, 5);
-    let to = part_start(k, 6);
-    same_bytes(&x[from..to], &y[from..to])
+    same_bytes(x.p6, y.p6)
 }
 
 // How many executions before e are kept.
+#[tactic(auto, unfolding(protocol::specs::Prover::place, lists::specs::Index::count))]
 pub fn place_of(p2: &[u8], e: usize) -> usize
     requires { e ≤ 256 }
     ensures { result ≡ place p2.now e }
 {
     let mut kept = 0;
-    let mut j = 0;
-    while j < e {
-        let i = j;
-        j += 1;
-        if !is_opened(p2, i) {
+    for j in 0..e {
+        if !is_opened(p2, j) {
             kept += 1;
         }
     }
@@ -57,48 +52,38 @@ pub fn place_of(p2: &[u8], e: usize) -> usize
 }
 
 // The hidden party of kept execution e.
+#[tactic(auto, unfolding(protocol::specs::Prover::hidden_of))]
 pub fn hidden_of(p2: &[u8], p6: &[u8], e: usize) -> usize
     requires { e ≤ 256 }
     ensures { result ≡ hidden_of p2.now p6.now e }
 {
-    let party = hidden_at(p6, place_of(p2, e));
-    if party == 0 {
-        return 0;
-    }
-    party - 1
+    hidden_at(p6, place_of(p2, e)).saturating_sub(1)
 }
 
 // Execution e is kept and hides different parties.
+#[tactic(auto, unfolding(crate::specs::Fork::differs))]
 fn forks_at(p2: &[u8], h1: &[u8], h2: &[u8], e: usize) -> bool
     requires { e < 256 }
     ensures { result ≡ differs p2.now h1.now h2.now e }
 {
-    if is_opened(p2, e) {
-        return false;
-    }
-    hidden_of(p2, h1, e) != hidden_of(p2, h2, e)
+    !is_opened(p2, e) && hidden_of(p2, h1, e) != hidden_of(p2, h2, e)
 }
 
 // The smallest execution where the hidden parties of two hidden lists differ, or M.
 pub fn execution_of(k: Numbers, p2: &[u8], h1: &[u8], h2: &[u8]) -> usize
-    requires { Limits k }
     ensures value { (K : Key) (P R : Parts) → Of k K → P.p2 ≡ p2.now → P.p6 ≡ h1.now → R.p2 ≡ p2.now → R.p6 ≡ h2.now → result ≡ execution K P R }
     ensures upper_bound { result ≤ k.executions }
 {
-    let executions = k.executions;
-    let mut e = 0;
-    while e < executions {
+    for e in 0..k.executions {
         if forks_at(p2, h1, h2, e) {
             return e;
         }
-        e += 1;
     }
-    executions
+    k.executions
 }
 
 // How many bytes part 7 holds of kept execution e.
 pub fn reply_length(k: Numbers, p2: &[u8], p6: &[u8], e: usize) -> usize
-    requires limits { Limits k }
     requires e_lt_executions { e < k.executions }
     requires e_kept { opened p2.now e ≡ false }
     ensures value { (K : Key) (P : Parts) → Of k K → P.p2 ≡ p2.now → P.p6 ≡ p6.now → result ≡ reply_size K P e }

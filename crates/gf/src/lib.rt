@@ -28,6 +28,7 @@ pub fn low8(x: u64) -> u8
 }
 
 // `inverse` is the inverse of the field, and takes 0 to 0.
+#[tactic(auto, using(crate::proofs::Inverse::inverse_of_lem, crate::proofs::Inverse::inverse_byte, crate::proofs::Inverse::inverse_zero))]
 pub fn inverse_is_inverse()
     ensures inverts { (a : ℕ) → 0 < a → a < 256 → gmul a (inverse a) ≡ 1 }
     ensures is_byte { (a : ℕ) → a < 256 → inverse a < 256 }

@@ -12,10 +12,6 @@ gamma_in m N e leaves work i =
     input 3 (e + 1) (i + 1)
     (part leaves (16 * i) 16 ++ words (pick (eqb (suc i) N) (part work (3 * m * i + m) m) []) ++ block (part leaves (16 * i) 16) 0)
 
--- the same of a party that is not N
-unfoldable pub other_in : ℕ → List ℕ → ℕ → List ℕ
-other_in e leaves i = input 3 (e + 1) (i + 1) (part leaves (16 * i) 16 ++ words [] ++ block (part leaves (16 * i) 16) 0)
-
 -- Ω's input: s of party N, block 1 of its seed
 unfoldable pub omega_in : ℕ → ℕ → ℕ → List ℕ → List ℕ → List ℕ
 omega_in m N e leaves work =

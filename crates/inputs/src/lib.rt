@@ -2,157 +2,83 @@
 // and Ω, each into a list of its length.
 #![tactic(auto)]
 
-ghost use Rattle.std.specs.Prelude.{◌≡◌, ◌++◌, ◌+◌, ◌*◌, ◌-◌, ◌<◌, ◌≤◌, length};
+ghost use Rattle.std.specs.Prelude.{◌≡◌, ◌++◌, ◌+◌, ◌*◌, ◌<◌, length};
 ghost use Rattle.lists.specs.Index.{cat};
 ghost use Rattle.lists.specs.Bytes.{words};
 ghost use Rattle.streams.specs.Streams.{block};
 ghost use Rattle.protocol.specs.Shares.{input};
-ghost use Rattle.views.specs.Seen.{Bounded, gamma_at};
-ghost use Rattle.inputs.specs.Steps.{gamma_in, other_in, omega_in};
+ghost use Rattle.views.specs.Seen.{gamma_at};
+ghost use Rattle.inputs.specs.Steps.{gamma_in, omega_in};
+
+use execution::Lists;
 
 // Numbers, then block j of a seed.
-pub fn put_with_block(xs: &[u32], seed: &[u8], j: u64, out: &mut [u8])
-    requires seed_len { length seed.now ≡ 16 }
-    requires out_len { length out.old ≡ 4 * length xs.now + 16 }
+pub fn put_with_block(xs: &[u32], seed: &[u8; 16], j: u64, out: &mut [u8])
+    requires { length out.old ≡ 4 * length xs.now + 16 }
     ensures { out.new ≡ words xs.now ++ block seed.now j }
 {
-    let mid = 4 * xs.len();
-    bytes4::put_numbers(xs, &mut out[..mid]);
-    let b = streams::block_of(seed, j);
-    streams::copy(&b, &mut out[mid..]);
+    let (numbers, block) = out.split_at_mut(4 * xs.len());
+    bytes4::put_numbers(xs, numbers);
+    block.copy_from_slice(&streams::block_of(seed, j));
 }
 
 // Γ's input: the seed, the numbers d (party N's, else none), and block 0 of the seed.
-fn gamma_input(execution: usize, party: usize, seed: &[u8], d: &[u32], out: &mut [u8])
-    requires seed_len { length seed.now ≡ 16 }
-    requires out_len { length out.old ≡ 4 * length d.now + 32 }
+fn gamma_input(execution: usize, party: usize, seed: &[u8; 16], d: &[u32], out: &mut [u8])
+    requires { length out.old ≡ 4 * length d.now + 32 }
     ensures { out.new ≡ input 3 execution party (seed.now ++ words d.now ++ block seed.now 0) }
 {
-    streams::copy(seed, &mut out[..16]);
-    put_with_block(d, seed, 0, &mut out[16..]);
-}
-
-// Γ's inputs of the first `count` parties, none of which is party N.
-fn other_gammas(count: usize, execution: usize, leaves: &[u8], work: &[u32], out: &mut [u8])
-    requires count_bound { (count ≤ 32) × (execution < 32) }
-    requires count_in_bounds { 16 * count ≤ length leaves.now }
-    requires out_len { length out.old ≡ 32 * count }
-    ensures { out.new ≡ cat count (other_in execution leaves.now) }
-{
-    let mut i = 0;
-    while i < count {
-        let from = 16 * i;
-        let to = from + 16;
-        let at = 32 * i;
-        let end = at + 32;
-        gamma_input(
-            execution + 1,
-            i + 1,
-            &leaves[from..to],
-            &work[..0],
-            &mut out[at..end],
-        );
-        i += 1;
-    }
-}
-
-// Γ's input of party N.
-fn last_gamma(
-    m: usize,
-    parties: usize,
-    execution: usize,
-    leaves: &[u8],
-    work: &[u32],
-    out: &mut [u8],
-)
-    requires bounded { Bounded m parties execution }
-    requires leaves_len { length leaves.now ≡ 16 * parties }
-    requires parties_in_bounds { 3 * m * parties ≤ length work.now }
-    requires out_len { length out.old ≡ 4 * m + 32 }
-    ensures { out.new ≡ gamma_in m parties execution leaves.now work.now (parties - 1) }
-{
-    let last = parties - 1;
-    let from = 16 * last;
-    let to = from + 16;
-    let start = 3 * m * last + m;
-    let end = start + m;
-    gamma_input(
-        execution + 1,
-        parties,
-        &leaves[from..to],
-        &work[start..end],
-        out,
-    );
+    let (front, rest) = out.split_at_mut(16);
+    front.copy_from_slice(seed);
+    put_with_block(d, seed, 0, rest);
 }
 
 // Γ's inputs of all parties.
-pub fn gamma_inputs(
-    m: usize,
-    parties: usize,
-    execution: usize,
-    leaves: &[u8],
-    work: &[u32],
-    out: &mut [u8],
-)
-    requires bounded { Bounded m parties execution }
-    requires leaves_len { length leaves.now ≡ 16 * parties }
-    requires parties_in_bounds { 3 * m * parties ≤ length work.now }
-    requires out_len { length out.old ≡ 32 * parties + 4 * m }
-    ensures { out.new ≡ cat parties (gamma_in m parties execution leaves.now work.now) }
+// `views::parties` hashes the same; one function over a trait of sinks is no plainer, as `execution_inputs::pi_input` says.
+pub fn gamma_inputs(lists: Lists, execution: usize, out: &mut [u8])
+    requires execution_bound { execution < 32 }
+    requires out_long { length out.old ≡ 32 * lists.parties + 4 * lists.m }
+    ensures { out.new ≡ cat lists.entry.parties (gamma_in lists.entry.m lists.entry.parties execution lists.entry.leaves.now lists.entry.work.now) }
 {
-    let last = parties - 1;
-    let mid = 32 * last;
-    other_gammas(last, execution, leaves, work, &mut out[..mid]);
-    last_gamma(m, parties, execution, leaves, work, &mut out[mid..]);
+    let m = lists.m;
+    let last = lists.parties - 1;
+    for i in 0..last {
+        let seed = lists.leaves[16 * i..16 * i + 16].try_into().unwrap();
+        gamma_input(
+            execution + 1,
+            i + 1,
+            seed,
+            &[],
+            &mut out[32 * i..32 * i + 32],
+        );
+    }
+    let seed = lists.leaves[16 * last..16 * last + 16].try_into().unwrap();
+    let start = 3 * m * last + m;
+    let d = &lists.work[start..start + m];
+    gamma_input(execution + 1, lists.parties, seed, d, &mut out[32 * last..]);
 }
 
 // h(e)'s input: Γ(1) .. Γ(N).
-pub fn h_input(
-    m: usize,
-    parties: usize,
-    hidden: usize,
-    execution: usize,
-    given: &[u8],
-    leaves: &[u8],
-    work: &[u32],
-    out: &mut [u8],
-)
-    requires bounded { Bounded m parties execution }
-    requires given_len { hidden < parties → length given.now ≡ 32 }
-    requires leaves_len { length leaves.now ≡ 16 * parties }
-    requires parties_in_bounds { 3 * m * parties ≤ length work.now }
-    requires out_len { length out.old ≡ 32 * parties }
-    ensures { out.new ≡ input 2 (execution + 1) 0 (cat parties (gamma_at m parties hidden execution given.now leaves.now work.now)) }
+pub fn h_input(lists: Lists, hidden: usize, execution: usize, given: &[u8], out: &mut [u8])
+    requires execution_bound { execution < 32 }
+    requires given_long { hidden < lists.parties → length given.now ≡ 32 }
+    requires out_long { length out.old ≡ 32 * lists.parties }
+    ensures { out.new ≡ input 2 (execution + 1) 0 (cat lists.entry.parties (gamma_at lists.entry.m lists.entry.parties hidden execution given.now lists.entry.leaves.now lists.entry.work.now)) }
 {
-    let mut i = 0;
-    while i < parties {
-        let at = 32 * i;
-        let end = at + 32;
-        let g = views::parties::gamma_at(m, parties, hidden, execution, i, given, leaves, work);
-        streams::copy(&g, &mut out[at..end]);
-        i += 1;
+    for i in 0..lists.parties {
+        let g = views::parties::gamma_at(lists, hidden, execution, i, given);
+        out[32 * i..32 * i + 32].copy_from_slice(&g);
     }
 }
 
 // Ω's input: party N's numbers s and block 1 of its seed.
-pub fn omega_input(
-    m: usize,
-    parties: usize,
-    execution: usize,
-    leaves: &[u8],
-    work: &[u32],
-    out: &mut [u8],
-)
-    requires bounded { Bounded m parties execution }
-    requires leaves_len { length leaves.now ≡ 16 * parties }
-    requires parties_in_bounds { 3 * m * parties ≤ length work.now }
-    requires out_len { length out.old ≡ 4 * m + 16 }
-    ensures { out.new ≡ omega_in m parties execution leaves.now work.now }
+pub fn omega_input(lists: Lists, execution: usize, out: &mut [u8])
+    requires execution_bound { execution < 32 }
+    requires out_long { length out.old ≡ 4 * lists.m + 16 }
+    ensures { out.new ≡ omega_in lists.entry.m lists.entry.parties execution lists.entry.leaves.now lists.entry.work.now }
 {
-    let last = parties - 1;
-    let from = 16 * last;
-    let to = from + 16;
+    let m = lists.m;
+    let last = lists.parties - 1;
+    let seed = lists.leaves[16 * last..16 * last + 16].try_into().unwrap();
     let start = 3 * m * last + 2 * m;
-    let end = start + m;
-    put_with_block(&work[start..end], &leaves[from..to], 1, out);
+    put_with_block(&lists.work[start..start + m], seed, 1, out);
 }

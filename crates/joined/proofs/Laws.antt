@@ -1,32 +1,30 @@
--- Bounds of the places that are read, and a list that is written over from its front.
+-- Sums of the open parties' numbers, and a list that is written over from its front.
 -- Assumes nothing.
 use Prim.Native.Nat.{ℕ, suc, ◌+◌, ◌*◌, ◌%◌, ◌<◌, ◌≤◌}
-use mathlib.Core.Path.{◌≡◌, refl, ◌∙◌, ap}
-use mathlib.Core.List.{List, ◌++◌, append-nil}
+use mathlib.Core.Path.{◌≡◌, refl}
+use mathlib.Core.List.{List, ◌++◌}
 use native.Mathlib.Omega.{arith}
 use borrow.Author.Tests.{eq-eqb, ne_eqb}
-use lib.ListN.{length, get_or, set, drop, length-append, length-drop, drop_of_length-le}
+use lib.ListN.{length, get_or, set, drop}
 use lib.Seq.{drop-cons, get_or_at}
 use Rattle.lists.specs.Tab.{tab, tab-length}
 use Rattle.lists.specs.Written.{front-more}
 use Rattle.numbers.specs.Sum.{sum}
+use Rattle.numbers.proofs.Sum.{sum_more}
 use Rattle.numbers.specs.Residue.{Residue}
 use Rattle.execution.specs.Shown.{place_of}
-use Rattle.execution.proofs.Laws.{inside, small}
 use Rattle.joined.specs.Joined.{open_at, open_sum, with_party}
 
--- a party's number stands in the list, at a small place
-pub place_in : (m N i j long : ℕ) → i < N → j < 3 * m → 3 * m * N ≤ long → place_of m i j < long
-place_in m N i j long h k r = omega (arith, inside m N i h)
-
-pub place-small : (m N i : ℕ) → m ≤ 128 → N ≤ 32 → i < N → 3 * m * i + 3 * m ≤ 12288
-place-small m N i h k l = omega (arith, inside m N i l, small m N h k)
-
+-- number j of a party that is hidden, and of one that is open
 pub open_hidden : (m hid : ℕ) (work : List ℕ) (j i : ℕ) → i ≡ hid → 0 ≡ open_at m hid work j i
 open_hidden m hid work j i e = rw (eq-eqb i hid e)
 
 pub open_shown : (m hid : ℕ) (work : List ℕ) (j i : ℕ) → (i ≡ hid → ⊥) → get_or work (place_of m i j) 0 ≡ open_at m hid work j i
 open_shown m hid work j i e = rw (ne_eqb i hid e)
+
+-- a sum whose next term is 0
+pub sum-same : {n total : ℕ} (f : ℕ → ℕ) → total ≡ sum n f → f n ≡ 0 → total ≡ sum (n + 1) f
+sum-same {n} f e z = omega (arith, e, z, sum_more n f)
 
 -- r is l with the first n entries written over by those of f
 pub record Front (f : ℕ → ℕ) (l : List ℕ) (n : ℕ) (r : List ℕ) : Type 0 where
@@ -37,20 +35,12 @@ pub front-none : (f : ℕ → ℕ) (l : List ℕ) → Front f l 0 l
 unfolding tab
 front-none f l = record { within = omega arith; is = refl }
 
-pub front_long : {f : ℕ → ℕ} {l : List ℕ} {n : ℕ} {r : List ℕ} → Front f l n r → length r ≡ length l
-front_long {f} {l} {n} so = ap length so.is ∙ simp (length-append, length-drop, tab-length) (omega (arith, so.within))
-
 -- what is not yet written over
 pub front_at : {f : ℕ → ℕ} {l : List ℕ} {n : ℕ} {r : List ℕ} → Front f l n r → n < length l → get_or r n 0 ≡ get_or l n 0
 front_at {f} {l} {n} so h = rw (so.is, drop-cons l n 0 h) (get_or_at (tab n f) (get_or l n 0) (drop (suc n) l) 0 n (tab-length n f))
 
 pub front-next : {f : ℕ → ℕ} {l : List ℕ} {n : ℕ} {r : List ℕ} {v : ℕ} → Front f l n r → n < length l → v ≡ f n → Front f l (n + 1) (set r n v)
 front-next {f} {l} {n} {r} {v} so h e = record { within = omega arith; is = rw (so.is, e) (front-more n f l h) }
-
-pub front_all : {f : ℕ → ℕ} {l : List ℕ} {n : ℕ} {r : List ℕ} (k : ℕ) → Front f l n r → length l ≡ k → k ≤ n → r ≡ tab k f
-front_all {f} {l} {n} k so e h =
-    let z : n ≡ k = omega (arith, so.within) in
-    so.is ∙ rw (z, drop_of_length-le l {i = k} (omega arith)) (append-nil (tab k f))
 
 -- one party's number more
 pub party_is : (q m i j from old r : ℕ) (work sums : List ℕ) → old ≡ get_or sums j 0 → from ≡ 3 * m * i

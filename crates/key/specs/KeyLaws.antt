@@ -14,8 +14,9 @@ use Rattle.numbers.specs.Inverse.{Member, qs, Ns}
 use Rattle.numbers.proofs.Inverse.{parties_least, parties_most}
 use Rattle.refusals.specs.Number.{number_of, none_applies}
 use Rattle.protocol.specs.Key.{Key, entries, depth, key_of, limits, key_checks}
-use Rattle.key.specs.declared.Numbers.{Numbers}
-use Rattle.key.specs.Numbers.{Of, Limits, Read, key_with}
+use Rattle.key.specs.declared.sizes.Numbers.{Numbers}
+use Rattle.key.specs.Limits.{Limits}
+use Rattle.key.specs.Numbers.{Of, Read, key_with}
 
 -- The number 0 is given to an accepted key alone.
 pub key_accepted : (x : List ℕ) → number_of (first (key_checks (key_of x) x)) ≡ 0 → first (key_checks (key_of x) x) ≡ accepted
@@ -23,31 +24,36 @@ unfolding key_checks
 key_accepted x e =
     none_applies (key_checks (key_of x) x) (omega arith, (omega arith, (omega arith, (omega arith, (omega arith, tt))))) e
 
-pub member_of : {x y : ℕ} {l : List ℕ} → x ≡ y → member y l ≡ true → Member x l
-member_of {x} {y} {l} e h = subst (λ (z : ℕ). Member z l) (sym e) (record { listed = h })
-
-pub limits_of : (k : Numbers) (K : Key) → Of k K → member K.q qs ≡ true → holds (limits K) ≡ true → Limits k
+-- The limits of a key whose tests hold.
+pub limits_of : (K : Key) → member K.q qs ≡ true → holds (limits K) ≡ true → Limits K.q K.n K.m K.N K.M K.τ
 unfolding limits
-limits_of k K of q h = go (holds-each (limits K) h)
+limits_of K q h = go (holds-each (limits K) h)
   where
-    go : Holds (limits K) → Limits k
+    go : Holds (limits K) → Limits K.q K.n K.m K.N K.M K.τ
     go l =
-        let parties : Member k.parties Ns = member_of of.parties_is l.1.1.1.1.1.0 in
+        let parties : Member K.N Ns = record { listed = l.1.1.1.1.1.0 } in
         record {
-          q_listed = member_of of.q_is q;
-          n_least = omega (arith, leb-true 1 K.n l.0);
-          n_most = omega (arith, leb-true K.n 32 l.1.0);
-          m_least = omega (arith, leb-true 2 K.m l.1.1.0);
-          m_most = omega (arith, leb-true K.m 128 l.1.1.1.0);
-          n_below_m = omega (arith, ltb-true K.n K.m l.1.1.1.1.0);
+          q_listed = record { listed = q };
+          n_least = leb-true 1 K.n l.0;
+          n_most = leb-true K.n 32 l.1.0;
+          m_least = leb-true 2 K.m l.1.1.0;
+          m_most = leb-true K.m 128 l.1.1.1.0;
+          n_below_m = ltb-true K.n K.m l.1.1.1.1.0;
           parties_listed = parties;
           parties_least = parties_least parties;
           parties_most = parties_most parties;
-          executions_least = omega (arith, leb-true 2 K.M l.1.1.1.1.1.1.0);
-          executions_most = omega (arith, leb-true K.M 32 l.1.1.1.1.1.1.1.0);
-          τ_least = omega (arith, leb-true 1 K.τ l.1.1.1.1.1.1.1.1.0);
-          τ_below_m = omega (arith, ltb-true K.τ K.M l.1.1.1.1.1.1.1.1.1.0);
+          executions_least = leb-true 2 K.M l.1.1.1.1.1.1.0;
+          executions_most = leb-true K.M 32 l.1.1.1.1.1.1.1.0;
+          τ_least = leb-true 1 K.τ l.1.1.1.1.1.1.1.1.0;
+          τ_below_m = ltb-true K.τ K.M l.1.1.1.1.1.1.1.1.1.0;
         }
+
+-- An accepted key's numbers are within them.
+pub limits_accepted : (x : List ℕ) → first (key_checks (key_of x) x) ≡ accepted → Limits (key_of x).q (key_of x).n (key_of x).m (key_of x).N (key_of x).M (key_of x).τ
+unfolding key_checks
+limits_accepted x e =
+    let c : Clean (key_checks (key_of x) x) = clean (key_checks (key_of x) x) e in
+    limits_of (key_of x) (not-false _ c.1.0) (not-false _ c.1.1.0)
 
 -- The numbers of k and of K give one count of entries.
 pub entries_of : (k : Numbers) (K : Key) → Of k K → k.n * (k.m + 1) ≡ entries K
@@ -68,7 +74,7 @@ read_of x k e of =
     let size : k.n * (k.m + 1) ≡ entries (key_of x) = entries_of k (key_of x) of in
     record {
       of = of;
-      within = limits_of k (key_of x) of (not-false _ c.1.0) (not-false _ c.1.1.0);
+      within = k.limits;
       long = eqb-true (length x) (24 + 4 * entries (key_of x)) (not-false _ c.1.1.1.0) ∙ ap (λ (j : ℕ). 24 + 4 * j) (sym size);
       below = λ j h.
           subst (λ (q : ℕ). (key_of x).entry j < q) (sym of.q_is)

@@ -1,90 +1,100 @@
 // A key's bytes (document 01, Key): its six numbers, its limits, and the entries of A and t.
 #![tactic(auto)]
 
-ghost use Rattle.std.specs.Prelude.{◌≡◌, ◌++◌, ◌+◌, ◌*◌, ◌≤◌, ltb, length, drop};
+ghost use Rattle.std.specs.Prelude.{◌≡◌, ◌++◌, ◌+◌, ◌*◌, ◌≤◌, ltb, length, drop, IfOk};
 ghost use Rattle.lists.specs.Tab.{tab};
 ghost use Rattle.lists.specs.Index.{every, holds};
 ghost use Rattle.lists.specs.Bytes.{num};
 ghost use Rattle.lists.specs.Check.{accepted, first};
 ghost use Rattle.numbers.specs.Inverse.{Ns, Member};
-ghost use Rattle.refusals.specs.Number.{number_of};
+ghost use Rattle.refusals.specs.Refused.{verdict_of};
 ghost use Rattle.protocol.specs.Key.{Key, entries, key_of, limits, key_checks};
-ghost use Rattle.key.specs.Numbers.{Of, Read, Depth};
+ghost use Rattle.key.specs.Limits.{Limits, Depth};
+ghost use Rattle.key.specs.Numbers.{Of, Read};
+
+mod sizes;
 
 use bytes4::le32;
-use numbers::{is_modulus, is_parties};
-use refusals::{KEY_ENTRY, KEY_LENGTH, KEY_LIMITS, KEY_MODULUS, KEY_SHORT};
-
-// q, n, m, N, M, τ.
-#[derive(Clone, Copy)]
-pub struct Numbers {
-    pub q: u32,
-    pub n: usize,
-    pub m: usize,
-    pub parties: usize,
-    pub executions: usize,
-    pub opened: usize,
-}
+use numbers::{Modulus, is_modulus, is_parties};
+use refusals::Refusal;
+pub use sizes::{Numbers, ReadKey};
 
 // n is 1 to 32, m is 2 to 128, n < m, N is listed, M is 2 to 32, τ is 1 to M - 1.
-fn in_limits(k: Numbers) -> bool
-    ensures { (K : Key) → Of k K → result ≡ holds (limits K) }
+fn in_limits(n: usize, m: usize, parties: usize, executions: usize, opened: usize) -> bool
+    ensures { (K : Key) → K.n ≡ n → K.m ≡ m → K.N ≡ parties → K.M ≡ executions → K.τ ≡ opened → result ≡ holds (limits K) }
 {
-    if k.n < 1 {
+    if n < 1 {
         return false;
     }
-    if k.n > 32 {
+    if n > 32 {
         return false;
     }
-    if k.m < 2 {
+    if m < 2 {
         return false;
     }
-    if k.m > 128 {
+    if m > 128 {
         return false;
     }
-    if k.n >= k.m {
+    if n >= m {
         return false;
     }
-    if !is_parties(k.parties) {
+    if !is_parties(parties) {
         return false;
     }
-    if k.executions < 2 {
+    if executions < 2 {
         return false;
     }
-    if k.executions > 32 {
+    if executions > 32 {
         return false;
     }
-    if k.opened < 1 {
+    if opened < 1 {
         return false;
     }
-    if k.opened >= k.executions {
+    if opened >= executions {
         return false;
     }
     true
 }
 
 // How many entries A and t have.
-pub fn entry_count(k: Numbers) -> usize
-    requires n_bound { k.n ≤ 32 }
-    requires m_bound { k.m ≤ 128 }
-    ensures { (result ≡ k.n * (k.m + 1)) × (result ≤ 4128) }
+pub fn entry_count(n: usize, m: usize) -> usize
+    requires n_bound { n ≤ 32 }
+    requires m_bound { m ≤ 128 }
+    ensures { (result ≡ n * (m + 1)) × (result ≤ 4128) }
 {
-    k.n * (k.m + 1)
+    n * (m + 1)
 }
 
-// The first six numbers.
+// The numbers of a key that is within the limits.
 fn six(key: &[u8]) -> Numbers
-    requires { 24 ≤ length key.now }
+    requires key_len { 24 ≤ length key.now }
+    requires limits { Limits (key_of key.now).q (key_of key.now).n (key_of key.now).m (key_of key.now).N (key_of key.now).M (key_of key.now).τ }
     ensures { Of result (key_of key.now) }
 {
+    let parties = le32(key, 3) as usize;
     Numbers {
-        q: le32(key, 0),
+        modulus: Modulus { q: le32(key, 0) },
         n: le32(key, 1) as usize,
         m: le32(key, 2) as usize,
-        parties: le32(key, 3) as usize,
+        parties,
+        depth: depth(parties),
         executions: le32(key, 4) as usize,
         opened: le32(key, 5) as usize,
     }
+}
+
+// The five numbers after q are within the limits.
+fn has_limits(key: &[u8]) -> bool
+    requires { 24 ≤ length key.now }
+    ensures { result ≡ holds (limits (key_of key.now)) }
+{
+    in_limits(
+        le32(key, 1) as usize,
+        le32(key, 2) as usize,
+        le32(key, 3) as usize,
+        le32(key, 4) as usize,
+        le32(key, 5) as usize,
+    )
 }
 
 // The first `count` entries are below q.
@@ -92,38 +102,37 @@ fn entries_below(key: &[u8], count: usize, q: u32) -> bool
     requires { 24 + 4 * count ≤ length key.now }
     ensures { result ≡ every count (λ j. ltb (num key.now (6 + j)) q) }
 {
-    let mut j = 0;
-    while j < count {
+    for j in 0..count {
         if le32(key, 6 + j) >= q {
             return false;
         }
-        j += 1;
     }
     true
 }
 
-// The first number of 1 to 5 that applies, or 0.
-pub fn check(key: &[u8]) -> u32
-    ensures { result ≡ number_of (first (key_checks (key_of key.now) key.now)) }
+// The six numbers of a key, or the first of 1 to 5 that applies.
+pub fn read(key: &[u8]) -> Result<Numbers, Refusal>
+    ensures verdict { verdict_of result ≡ first (key_checks (key_of key.now) key.now) }
+    ensures read { IfOk result (λ k. Read key.now k) }
 {
     if key.len() < 24 {
-        return KEY_SHORT;
+        return Err(Refusal::KeyShort);
+    }
+    if !is_modulus(le32(key, 0)) {
+        return Err(Refusal::KeyModulus);
+    }
+    if !has_limits(key) {
+        return Err(Refusal::KeyLimits);
     }
     let k = six(key);
-    if !is_modulus(k.q) {
-        return KEY_MODULUS;
-    }
-    if !in_limits(k) {
-        return KEY_LIMITS;
-    }
-    let count = entry_count(k);
+    let count = entry_count(k.n, k.m);
     if key.len() != 24 + 4 * count {
-        return KEY_LENGTH;
+        return Err(Refusal::KeyLength);
     }
-    if !entries_below(key, count, k.q) {
-        return KEY_ENTRY;
+    if !entries_below(key, count, k.modulus.q) {
+        return Err(Refusal::KeyEntry);
     }
-    0
+    Ok(k)
 }
 
 // The six numbers of a key that is accepted.
@@ -140,10 +149,8 @@ fn copy_entries(key: &[u8], count: usize, at: &mut [u32])
     requires count_in_bounds_2 { count ≤ length at.old }
     ensures { at.new ≡ tab count (key_of key.now).entry ++ drop count at.old }
 {
-    let mut j = 0;
-    while j < count {
+    for j in 0..count {
         at[j] = le32(key, 6 + j);
-        j += 1;
     }
 }
 
@@ -154,7 +161,7 @@ pub fn entries(key: &[u8], at: &mut [u32])
     ensures { at.new ≡ tab (entries (key_of key.now)) (key_of key.now).entry ++ drop (entries (key_of key.now)) at.old }
 {
     let k = numbers_of(key);
-    copy_entries(key, entry_count(k), at);
+    copy_entries(key, entry_count(k.n, k.m), at);
 }
 
 // log2 N.
@@ -162,17 +169,11 @@ pub fn depth(parties: usize) -> usize
     requires { Member parties Ns }
     ensures { Depth parties result }
 {
-    if parties == 2 {
-        return 1;
+    match parties {
+        2 => 1,
+        4 => 2,
+        8 => 3,
+        16 => 4,
+        _ => 5,
     }
-    if parties == 4 {
-        return 2;
-    }
-    if parties == 8 {
-        return 3;
-    }
-    if parties == 16 {
-        return 4;
-    }
-    5
 }

@@ -4,22 +4,17 @@
 ghost use Rattle.std.specs.Prelude.{◌≡◌, ◌++◌, ◌≤◌, length, take, drop};
 ghost use Rattle.line.specs.Line.{decimal, line_of};
 
-// The digits of a number that has at most `most` of them, in front; returns how many there are.
+use itoa::Buffer;
+
+// The last `most` digits of a number, or all where it has fewer, in front; returns how many there are.
 pub fn put_decimal(n: u32, most: usize, out: &mut [u8]) -> usize
     requires { most ≤ length out.old }
     ensures value { result ≡ length (decimal most n) }
     ensures out_after { out.new ≡ decimal most n ++ drop result out.old }
 {
-    if most == 0 {
-        return 0;
-    }
-    if n < 10 {
-        out[0] = 48 + n as u8;
-        return 1;
-    }
-    let k = put_decimal(n / 10, most - 1, out);
-    out[k] = 48 + (n % 10) as u8;
-    k + 1
+    let mut buffer = Buffer::new();
+    let digits = buffer.format(n).as_bytes();
+    put_text(&digits[digits.len().saturating_sub(most)..], out)
 }
 
 // A text in front; returns its length.
@@ -29,12 +24,13 @@ pub fn put_text(text: &[u8], out: &mut [u8]) -> usize
     ensures out_after { out.new ≡ text.now ++ drop result out.old }
 {
     let n = text.len();
-    streams::copy(text, &mut out[..n]);
+    out[..n].copy_from_slice(text);
     n
 }
 
 // `accepted` for 0, else `refused` and the number, in front of a list of 19 bytes or more; returns the line's length. The
-// last clause follows from the others, for callers that take that part of the list.
+// last clause follows from the others, for callers that take that part of the list. No `impl Display`: its contract leaves open
+// that a `fmt` answers an Err, and this call cannot fail.
 pub fn verdict_line(number: u32, out: &mut [u8]) -> usize
     requires { 19 ≤ length out.old }
     ensures value { result ≡ length (line_of number) }

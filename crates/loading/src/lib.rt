@@ -1,10 +1,13 @@
-// The first bytes of an input, in front of a list.
+// The first bytes of an input or a file, in front of a list.
 #![tactic(auto)]
 
 ghost use Rattle.std.specs.Prelude.{◌≡◌, ◌≤◌, length, take};
+ghost use Rattle.std.specs.Io.{ReadsAtMost};
 ghost use Rattle.std.specs.Io.KnownBytes.{Consumes};
 
 use std::io::Read;
+use std::rt::Files;
+use std::{fs, io};
 
 // The next bytes of an input in front of a list; returns how many they are, 0 at the input's end and where the read fails.
 fn read_some<R: Read>(input: &mut R, out: &mut [u8]) -> usize
@@ -31,4 +34,12 @@ pub fn fill<R: Read>(input: &mut R, out: &mut [u8]) -> usize
         }
         done += n;
     }
+}
+
+// The file's bytes in front of a list, as many as fit: how many they are, or why the file cannot be opened.
+pub fn load<R: Files>(files: &R, path: &str, out: &mut [u8]) -> io::Result<usize>
+    ensures { ReadsAtMost result out.new }
+{
+    let mut file = fs::open(files, path)?;
+    Ok(fill(&mut file, out))
 }

@@ -8,7 +8,7 @@ use native.Mathlib.Decide.{ℕ_discrete}
 use native.Mathlib.Omega.{arith}
 use borrow.Author.Tests.{eq-eqb, ne_eqb}
 use lib.Arith.{lt_of_le-ne}
-use lib.ListN.{length, get_or, take, drop}
+use lib.ListN.{length, get_or}
 use Rattle.lists.specs.Index.{pick, cat, part}
 use Rattle.numbers.specs.Mod.{sub}
 use Rattle.numbers.proofs.Mod.{sub-lt}
@@ -57,10 +57,6 @@ module _ {q m N i : ℕ} {seed before one two : List ℕ} (bs : Put (3 * m * i) 
         below = λ x h. ss.below x (omega arith) ∙ (zs.below x (omega arith) ∙ bs.below x h);
       }
 
--- ---- party by party
-pub masks_none : {q m N : ℕ} (leaves work : List ℕ) → Masks q m N leaves work 0
-masks_none leaves work = record { bs = λ i j h. absurd (omega arith); zs = λ i j h. absurd (omega arith); ss = λ i j h. absurd (omega arith) }
-
 -- what holds of the parties below n and of party n holds of those below n + 1
 one_more : (P : ℕ → Type 0) (n : ℕ) → ((i : ℕ) → i < n → P i) → P n → (i : ℕ) → i < n + 1 → P i
 one_more P n low here i h = go (ℕ_discrete i n)
@@ -69,14 +65,14 @@ one_more P n low here i h = go (ℕ_discrete i n)
     go (yes e) = subst P (sym e) here
     go (no ne) = low i (lt_of_le-ne (omega arith) ne)
 
-pub masks_next : {q m N n : ℕ} {leaves work after : List ℕ} → Row q m N n (take (16 * n + 16 - 16 * n) (drop (16 * n) leaves)) work after
+pub masks_next : {q m N n : ℕ} {leaves seed work after : List ℕ} → seed ≡ part leaves (16 * n) 16 → Row q m N n seed work after
     → Masks q m N leaves work n → Masks q m N leaves after (n + 1)
-masks_next {q} {m} {N} {n} {leaves} {work} {after} row so =
+masks_next {q} {m} {N} {n} {leaves} {seed} {work} {after} is row so =
     record {
       bs = λ i j h k.
           one_more (λ i. get_or after (place_of m i j) 0 ≡ number q (part leaves (16 * i) 16) 2 j) n
           (λ i y. row.below (place_of m i j) (omega (arith, inside m n i y)) ∙ so.bs i j y k)
-          (row.bs j k ∙ ap (λ z. number q (take z (drop (16 * n) leaves)) 2 j) sixteen) i h;
+          (row.bs j k ∙ ap (λ z. number q z 2 j) is) i h;
       zs = λ i j h k.
           one_more (λ i. get_or after (place_of m i (m + j)) 0 ≡ 0) n
           (λ i y. row.below (place_of m i (m + j)) (omega (arith, inside m n i y)) ∙ so.zs i j y k)
@@ -84,11 +80,8 @@ masks_next {q} {m} {N} {n} {leaves} {work} {after} row so =
       ss = λ i j h ne k.
           one_more (λ i. (suc i ≡ N → ⊥) → get_or after (place_of m i (2 * m + j)) 0 ≡ number q (part leaves (16 * i) 16) 2 (2 * m + j)) n
           (λ i y ne. row.below (place_of m i (2 * m + j)) (omega (arith, inside m n i y)) ∙ so.ss i j y ne k)
-          (λ ne. row.ss j ne k ∙ ap (λ z. number q (take z (drop (16 * n) leaves)) 2 (2 * m + j)) sixteen) i h ne;
+          (λ ne. row.ss j ne k ∙ ap (λ z. number q z 2 (2 * m + j)) is) i h ne;
     }
-  where
-    sixteen : 16 * n + 16 - 16 * n ≡ 16
-    sixteen = omega arith
 
 -- what party N's s leaves of the parties' numbers
 module _ {q m N : ℕ} {f : ℕ → ℕ} {leaves one two : List ℕ} (masks : Masks q m N leaves one N) (put : Put (3 * m * (N - 1) + 2 * m) m f one two) where

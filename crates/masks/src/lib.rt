@@ -1,93 +1,72 @@
 // The b and s of an execution that is dealt, without its d.
 #![tactic(auto)]
 
-ghost use Rattle.std.specs.Prelude.{◌≡◌, ◌+◌, ◌*◌, ◌^◌, ◌<◌, ◌≤◌, length};
-ghost use Rattle.numbers.specs.Inverse.{Member, qs};
-ghost use Rattle.streams.specs.Streams.{number};
-ghost use Rattle.execution.specs.Shown.{Limits};
+ghost use Rattle.std.specs.Prelude.{◌≡◌, ◌+◌, ◌*◌, ◌<◌, ◌≤◌, length};
 ghost use Rattle.execution.specs.Lists.{Put, Reduced};
 ghost use Rattle.masks.specs.Masks.{Row, Masks, Masked};
 
-use execution::shares;
-
-// `count` numbers of a seed, from block c on, to the work list from place `from` on.
-fn put_drawn(q: u32, c: u64, count: usize, from: usize, seed: &[u8], work: &mut [u32])
-    requires member { Member q qs }
-    requires c_bound { (c ≤ 256) × (count ≤ 128) × (from ≤ 12288) }
-    requires seed_len { length seed.now ≡ 16 }
-    requires count_in_bounds { from + count ≤ length work.old }
-    ensures { Put from count (number q seed.now c) work.old work.new }
-{
-    let to = from + count;
-    streams::fill(seed, c, q, &mut work[from..to]);
-}
+use execution::{Dealing, Sharing, shares};
 
 // `count` zeros to the work list from place `from` on.
-fn put_zeros(count: usize, from: usize, work: &mut [u32])
-    requires count_bound { (count ≤ 128) × (from ≤ 12288) }
-    requires count_in_bounds { from + count ≤ length work.old }
+fn put_zeros(from: usize, count: usize, work: &mut [u32])
+    requires { from + count ≤ length work.old }
     ensures { Put from count (λ _. 0) work.old work.new }
 {
-    for j in 0..count {
-        work[from + j] = 0;
-    }
+    work[from..from + count].fill(0);
 }
 
 // Party i's b, zeros in place of its d, and its s unless it is party N.
-fn draw_row(q: u32, m: usize, parties: usize, i: usize, seed: &[u8], work: &mut [u32])
-    requires limits { Limits q m parties }
-    requires i_lt_parties { i < parties }
-    requires seed_len { length seed.now ≡ 16 }
-    requires parties_in_bounds { 3 * m * parties ≤ length work.old }
-    ensures { Row q m parties i seed.now work.old work.new }
+fn draw_row(sharing: Sharing, i: usize, seed: &[u8; 16], work: &mut [u32])
+    requires i_lt_parties { i < sharing.parties }
+    requires work_long { 3 * sharing.m * sharing.parties ≤ length work.old }
+    ensures { Row sharing.modulus.q sharing.m sharing.parties i seed.now work.old work.new }
 {
+    let Sharing { modulus, m, .. } = sharing;
     let from = 3 * m * i;
-    put_drawn(q, 2, m, from, seed, work);
-    put_zeros(m, from + m, work);
-    if i + 1 == parties {
+    shares::draw(modulus, seed, 2, from, m, work);
+    put_zeros(from + m, m, work);
+    if i + 1 == sharing.parties {
         return;
     }
-    put_drawn(q, 2 + m as u64, m, from + 2 * m, seed, work);
+    shares::draw(modulus, seed, 2 + m as u64, from + 2 * m, m, work);
 }
 
 // Each party's b, and each but party N's s.
-fn draw_masks(q: u32, m: usize, parties: usize, leaves: &[u8], work: &mut [u32])
-    requires limits { Limits q m parties }
-    requires leaves_len { length leaves.now ≡ 16 * parties }
-    requires parties_in_bounds { 3 * m * parties ≤ length work.old }
-    ensures masks { Masks q m parties leaves.now work.new parties }
+#[tactic(auto, using(crate::proofs::Laws::masks_next))]
+fn draw_masks(sharing: Sharing, leaves: &[u8], work: &mut [u32])
+    requires leaves_long { length leaves.now ≡ 16 * sharing.parties }
+    requires work_long { 3 * sharing.m * sharing.parties ≤ length work.old }
+    ensures masks { Masks sharing.modulus.q sharing.m sharing.parties leaves.now work.new sharing.parties }
     ensures work_len_unchanged { length work.new ≡ length work.old }
 {
-    for i in 0..parties {
-        let from = 16 * i;
-        let to = from + 16;
-        draw_row(q, m, parties, i, &leaves[from..to], work);
+    for i in 0..sharing.parties {
+        let seed = leaves[16 * i..16 * i + 16].try_into().unwrap();
+        draw_row(sharing, i, seed, work);
     }
 }
 
 // The seeds, b and s of the prover's execution, from its master seed and the secret.
 pub fn deal_masks(
-    q: u32,
-    m: usize,
-    parties: usize,
-    depth: usize,
-    master: &[u8],
+    dealing: Dealing,
+    master: &[u8; 16],
     secret: &[u8],
     leaves: &mut [u8],
     work: &mut [u32],
 )
-    requires limits { Limits q m parties }
-    requires depth_value { 2 ^ depth ≡ parties }
-    requires master_len { length master.now ≡ 16 }
-    requires secret_len { length secret.now ≡ m }
-    requires leaves_len { length leaves.old ≡ 16 * parties }
-    requires parties_in_bounds { 3 * m * parties ≤ length work.old }
-    ensures masked { Masked q m parties depth master.now secret.now leaves.new work.new }
-    ensures reduced { Reduced q m parties parties work.new }
+    requires secret_long { length secret.now ≡ dealing.m }
+    requires leaves_long { length leaves.old ≡ 16 * dealing.parties }
+    requires work_long { 3 * dealing.m * dealing.parties ≤ length work.old }
+    ensures masked { Masked dealing.modulus.q dealing.m dealing.parties dealing.depth master.now secret.now leaves.new work.new }
+    ensures reduced { Reduced dealing.modulus.q dealing.m dealing.parties dealing.parties work.new }
     ensures leaves_len_unchanged { length leaves.new ≡ length leaves.old }
     ensures work_len_unchanged { length work.new ≡ length work.old }
 {
-    tree::leaves(depth, master, leaves);
-    draw_masks(q, m, parties, leaves, work);
-    shares::deal_s(q, m, parties, secret, work);
+    let sharing = Sharing {
+        modulus: dealing.modulus,
+        m: dealing.m,
+        parties: dealing.parties,
+    };
+    tree::leaves(dealing.depth, master, leaves);
+    draw_masks(sharing, leaves, work);
+    shares::deal_s(sharing, secret, work);
 }

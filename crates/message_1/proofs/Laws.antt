@@ -1,11 +1,10 @@
 -- Laws for message 1.
 -- Assumes nothing.
-use Prim.Native.Nat.{ℕ, ◌+◌, ◌*◌, ◌-◌}
+use Prim.Native.Nat.{ℕ, ◌+◌, ◌*◌}
 use mathlib.Core.Path.{◌≡◌, sym, ◌∙◌, ap}
 use mathlib.Core.List.{List, []}
-use native.Mathlib.Omega.{arith}
-use lib.ListN.{get_or, take, drop}
-use Rattle.lists.specs.Index.{cat}
+use lib.ListN.{get_or}
+use Rattle.lists.specs.Index.{cat, part}
 use Rattle.lists.specs.CatLaws.{cat-more}
 use Rattle.sha.specs.State.{Stands, Fed, fed_join, fed_nil}
 use Rattle.sha.specs.declared.Sha.{Sha}
@@ -21,13 +20,12 @@ unfolding cat
 h_none q m N D seeds s = record { fed = λ K sized deep. fed_nil s }
 
 pub h_more : {q m N D : ℕ} {seeds : List ℕ} {s₀ s t : Sha} (x : ℕ) {r : List ℕ} → FedH q m N D seeds s₀ x s
-    → OpenedHash q m N D x (take (16 * x + 16 - 16 * x) (drop (16 * x) seeds)) r → Fed s r t → FedH q m N D seeds s₀ (x + 1) t
+    → OpenedHash q m N D x (part seeds (16 * x) 16) r → Fed s r t → FedH q m N D seeds s₀ (x + 1) t
 unfolding prover_view
 h_more {q} {m} {N} {D} {seeds} x a h b =
-    let e : 16 * x + 16 - 16 * x ≡ 16 = omega arith in
     record {
       fed = λ K sized deep.
-          rw (cat-more x (λ e. sha256 (hin K (prover_view K seeds [] e))), ← (rw e at h).is K (λ k. get_or [] k 0) sized deep) (fed_join (a.fed K sized deep) b);
+          rw (cat-more x (λ e. sha256 (hin K (prover_view K seeds [] e))), ← h.is K (λ k. get_or [] k 0) sized deep) (fed_join (a.fed K sized deep) b);
     }
 
 pub h_all : {q m N M D : ℕ} {seeds : List ℕ} {s₀ s : Sha} (x : ℕ) {r : List ℕ} → Begun 1 0 0 s₀ → FedH q m N D seeds s₀ x s → x ≡ M

@@ -83,18 +83,15 @@ pub kept-none : {q m N D x at : ℕ} {E seeds secret κ o p : List ℕ} → open
 kept-none {x} {at} {E} {o} {p} e =
     record { to_is = rw e (omega arith); Ω = λ K sized deep. rw e (puts_none at o); Π = λ K sized deep. rw e (puts_none at p) }
 
-pub kept_some : {q m N D x at : ℕ} {E seeds secret κ o p a b : List ℕ} → opened E x ≡ false → length a ≡ 32 → length b ≡ 32
-    → OmegaOf q m N D x (take (16 * x + 16 - 16 * x) (drop (16 * x) seeds)) secret a
-    → PiOf q m N D x (take (16 * x + 16 - 16 * x) (drop (16 * x) seeds)) secret κ b
-    → {b' : List ℕ} → b' ≡ b
-    → KeptPuts q m N D x at (at + 32) E seeds secret κ o (take at o ++ (a ++ drop (at + 32 - at) (drop at o))) p (take at p ++ (b' ++ drop (at + 32 - at) (drop at p)))
+pub kept_some : {q m N D x at : ℕ} {E seeds secret κ o p a b a' b' : List ℕ} → opened E x ≡ false → length a ≡ 32 → length b ≡ 32
+    → OmegaOf q m N D x (part seeds (16 * x) 16) secret a → PiOf q m N D x (part seeds (16 * x) 16) secret κ b → a' ≡ a → b' ≡ b
+    → KeptPuts q m N D x at (at + 32) E seeds secret κ o (take at o ++ (a' ++ drop (at + 32 - at) (drop at o))) p (take at p ++ (b' ++ drop (at + 32 - at) (drop at p)))
 unfolding prover_view
-kept_some {q} {m} {N} {D} {x} {at} {E} {seeds} {secret} {κ} {o} {p} {a} {b} e la lb ω π w =
-    let z : 16 * x + 16 - 16 * x ≡ 16 = omega arith in
+kept_some {at} {o} {p} {a} {b} e la lb ω π v w =
     record {
       to_is = rw e refl;
-      Ω = λ K sized deep. rw (e, ← (rw z at ω).is K sized deep) (puts_some at 32 a o la);
-      Π = λ K sized deep. rw (w, e, ← (rw z at π).is K sized deep) (puts_some at 32 b p lb);
+      Ω = λ K sized deep. rw (v, e, ← ω.is K sized deep) (puts_some at 32 a o la);
+      Π = λ K sized deep. rw (w, e, ← π.is K sized deep) (puts_some at 32 b p lb);
     }
 
 pub kept-start : {q m N D : ℕ} {E seeds secret κ : List ℕ} (o p : List ℕ) → KeptBuilt q m N D 0 0 E seeds secret κ o o p p

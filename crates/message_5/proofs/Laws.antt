@@ -1,12 +1,12 @@
 -- Laws for message 5.
 -- Assumes nothing.
-use Prim.Native.Nat.{ℕ, ◌+◌, ◌*◌, ◌-◌, ◌<◌, ◌≤◌}
+use Prim.Native.Nat.{ℕ, ◌+◌, ◌*◌, ◌<◌, ◌≤◌}
 use mathlib.Core.Path.{◌≡◌, refl, sym, ◌∙◌, ap}
 use mathlib.Core.Bool.{true, false}
 use mathlib.Core.List.{List, [], ◌++◌}
 use native.Mathlib.Omega.{arith}
-use lib.ListN.{length, get_or, take, drop, length-append, get_or-append}
-use Rattle.lists.specs.Index.{cat, pick}
+use lib.ListN.{length, get_or, length-append, get_or-append}
+use Rattle.lists.specs.Index.{cat, pick, part}
 use Rattle.lists.specs.Tab.{tab, tab-at, tab-length}
 use Rattle.lists.specs.Bytes.{words}
 use Rattle.lists.specs.CatLaws.{cat-more}
@@ -22,9 +22,10 @@ use Rattle.execution.specs.Prepared.{Dealt}
 use Rattle.execution.specs.Begun.{Begun}
 use Rattle.views.proofs.Laws.{psi_is}
 use Rattle.response.specs.Held.{Held}
-use Rattle.key.specs.Numbers.{Read, Depth}
+use Rattle.key.specs.Limits.{Depth}
+use Rattle.key.specs.Numbers.{Read}
 use Rattle.key.specs.KeyLaws.{entries_of}
-use Rattle.key.specs.declared.Numbers.{Numbers}
+use Rattle.key.specs.declared.sizes.Numbers.{Numbers}
 use Rattle.prover.proofs.Laws.{sized_of}
 use Rattle.message_5.specs.Parts.{Keyed, PsiOf, KeptFed, AllFed, Fifth}
 
@@ -53,12 +54,9 @@ pub fed_opened : {q n m N D x : ℕ} {E seeds secret κ L entries : List ℕ} {s
 fed_opened {s = s} e = record { fed = λ K k. rw e (fed_nil s) }
 
 pub fed_kept : {q n m N D x : ℕ} {E seeds secret κ L entries h : List ℕ} {s r : Sha} → opened E x ≡ false
-    → PsiOf q n m N D x (take (16 * x + 16 - 16 * x) (drop (16 * x) seeds)) secret κ L entries h → Fed s h r
-    → KeptFed q n m N D x E seeds secret κ L entries s r
+    → PsiOf q n m N D x (part seeds (16 * x) 16) secret κ L entries h → Fed s h r → KeptFed q n m N D x E seeds secret κ L entries s r
 unfolding prover_view
-fed_kept {x = x} e p f =
-    let z : 16 * x + 16 - 16 * x ≡ 16 = omega arith in
-    record { fed = λ K k. rw (e, ← (rw z at p).is K k) f }
+fed_kept e p f = record { fed = λ K k. rw (e, ← p.is K k) f }
 
 pub all_none : {q n m N D : ℕ} {E seeds secret κ L entries : List ℕ} (s : Sha) → AllFed q n m N D 0 E seeds secret κ L entries s s
 unfolding cat
@@ -84,7 +82,7 @@ all_fed {E = E} {seeds = seeds} {secret = secret} {κ = κ} {L = L} x begun a e 
 
 -- the numbers and the entries that were read are the key's
 pub keyed_of : (x : List ℕ) (k : Numbers) (rest : List ℕ) {D : ℕ} {l : List ℕ} → Read x k → Depth k.parties D
-    → l ≡ tab (entries (key_of x)) (key_of x).entry ++ rest → Keyed k.q k.n k.m k.parties D l (key_of x)
+    → l ≡ tab (entries (key_of x)) (key_of x).entry ++ rest → Keyed k.modulus.q k.n k.m k.parties D l (key_of x)
 keyed_of x k rest {D} {l} r d is =
     record {
       sized = sized_of r.of;

@@ -3,14 +3,15 @@
 use Prim.Native.Nat.{ℕ, ◌+◌, ◌*◌, ◌-◌, ◌<◌, ◌≤◌}
 use mathlib.Core.Path.{◌≡◌, refl, sym, ◌∙◌, ap, ap₂, subst}
 use mathlib.Core.Bool.{true, false}
-use mathlib.Core.List.{List, [], ◌∷◌, ◌++◌}
+use mathlib.Core.List.{List, [], ◌∷◌, ◌++◌, append_assoc}
+use lib.Seq.{drop-drop, take_at, drop_at}
 use native.Mathlib.Omega.{arith}
 use lib.Dec.{leb}
-use lib.ListN.{length, get_or, take, drop, length-append, get_or-append}
+use lib.ListN.{length, get_or, take, drop, get_or-append}
 use borrow.Author.Tests.{leb-true}
 use Rattle.lists.specs.Written.{built_all, built_more, built_none, puts_none, puts_some}
 use Rattle.lists.specs.Tab.{tab, tab-at, tab-length}
-use Rattle.lists.specs.Index.{cat, count, pick}
+use Rattle.lists.specs.Index.{cat, count, pick, part}
 use Rattle.lists.specs.TestLaws.{every-at, holds-each, pick_true, pick_false}
 use Rattle.numbers.specs.Sum.{sum}
 use Rattle.numbers.proofs.Sum.{sum_ext, sum_zero, sum_more, sum_grows}
@@ -21,11 +22,12 @@ use Rattle.protocol.specs.Judge.{hidden, given_count, reply_size}
 use Rattle.protocol.proofs.Opened.{place-lt}
 use Rattle.protocol.proofs.Sizes.{hidden_length, reply_bytes, replies_bytes, message7_length}
 use Rattle.execution.specs.Prepared.{last_count}
-use Rattle.key.specs.declared.Numbers.{Numbers}
-use Rattle.key.specs.Numbers.{Of, Depth, key_with, of_with}
+use Rattle.key.specs.declared.sizes.Numbers.{Numbers}
+use Rattle.key.specs.Limits.{Depth}
+use Rattle.key.specs.Numbers.{Of, key_with, of_with}
 use Rattle.transcript.specs.Replies.{parts_with, size_kept}
 use Rattle.response.specs.Replies.{DealtReply}
-use Rattle.prover.proofs.Laws.{sized_of}
+use Rattle.prover.proofs.Laws.{sized_of, replies_are}
 use Rattle.message_7.specs.Parts.{reply_length, replies_length, Hides, KeyIn, reply_at, part_of, ReplyPuts, RepliesBuilt, RepliesAre, MessageIs}
 
 -- ---- one reply
@@ -40,14 +42,13 @@ size_is k {D} {h} {r} deep f =
     ∙ ap (λ x. 16 * x + 32 + 4 * (k.m + 1 + last_count k.m k.parties (h - 1))) (sym (deep.is (key_with k []) refl)))
 
 pub reply_puts : {k : Numbers} {D x at n r g : ℕ} {seeds secret L entries o ys : List ℕ} → Depth k.parties D → r ≡ g
-    → DealtReply k.q k.n k.m k.parties D x (r - 1) (take (16 * x + 16 - 16 * x) (drop (16 * x) seeds)) secret L entries ys
+    → DealtReply k.modulus.q k.n k.m k.parties D x (r - 1) (part seeds (16 * x) 16) secret L entries ys
     → length ys ≡ n → ReplyPuts k x (g - 1) at (at + n) seeds secret L entries o (take at o ++ (ys ++ drop (at + n - at) (drop at o)))
 unfolding prover_view
-reply_puts {k} {D} {x} {at} {n} {r} {g} {seeds} {secret} {L} {entries} {o} {ys} deep e d long =
-    let z : 16 * x + 16 - 16 * x ≡ 16 = omega arith in
+reply_puts {k} {at = at} {n = n} {o = o} {ys = ys} deep e d long =
     record {
       is = λ K given.
-          rw (← e, ← (rw z at d).is K (sized_of given.of) (sym given.of.n_is) given.entry (sym (deep.is K (sym given.of.parties_is))))
+          rw (← e, ← d.is K (sized_of given.of) (sym given.of.n_is) given.entry (sym (deep.is K (sym given.of.parties_is))))
           (puts_some at n ys o long);
     }
 
@@ -169,5 +170,15 @@ hides_at {k} {E} {hidden} {x} {y} so h t e =
 pub rows_fit : {k : Numbers} {K : Key} {w : ℕ} (w' : ℕ) → Of k K → entries K ≤ w → w' ≡ w → k.n * (k.m + 1) ≤ w'
 rows_fit {k} {K} {w} w' of h e = rw (e, of.n_is, of.m_is) h
 
-pub front_fits : (a out : List ℕ) (n : ℕ) → length a ≡ n → n ≤ length (a ++ drop n out)
-front_fits a out n h = omega (arith, length-append a (drop n out))
+-- the length that the transcript's rule gives
+pub count_is : (k : Numbers) (E hidden : List ℕ)
+    → 16 + sum k.executions (reply_size (key_with k []) (parts_with E hidden [])) ≡ 16 + replies_length k k.depth E hidden k.executions
+count_is k E hidden =
+    ap (λ n. 16 + n) (replies_are (key_with k []) E hidden k.executions ∙ long_is k (key_with k []) k.depth E hidden (of_with k []) k.deep k.executions)
+
+-- a list that is written in two parts, up to an end
+pub two_parts : (out a b : List ℕ) (mid end : ℕ) → length a ≡ mid → mid ≤ end
+    → take mid (a ++ drop mid out) ++ (b ++ drop (end - mid) (drop mid (a ++ drop mid out))) ≡ (a ++ b) ++ drop end out
+two_parts out a b mid end l h =
+    let z : mid + (end - mid) ≡ end = omega arith in
+    rw (take_at a (drop mid out) mid l, drop_at a (drop mid out) mid l, drop-drop (end - mid) mid out, z) (sym (append_assoc a b (drop end out)))

@@ -7,7 +7,7 @@ use Rattle.numbers.specs.Sum.{sum}
 use Rattle.protocol.specs.Key.{Key}
 use Rattle.protocol.specs.Prover.{prover_view, opened, place, hidden_of, reply}
 use Rattle.execution.specs.Prepared.{last_count}
-use Rattle.key.specs.declared.Numbers.{Numbers}
+use Rattle.key.specs.declared.sizes.Numbers.{Numbers}
 use Rattle.key.specs.Numbers.{Of}
 
 -- Document 01, part 7: how many bytes a reply has that hides party h, and how many the replies of the kept executions below n have

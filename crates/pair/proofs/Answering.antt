@@ -1,30 +1,30 @@
 -- From the refusals and the fork to what the pair reader answers.
 -- Assumes nothing.
 use Prim.Native.Nat.{ℕ, suc, ◌≤◌}
-use mathlib.Core.Path.{◌≡◌, refl, sym, ◌∙◌, ap, subst}
+use mathlib.Core.Path.{◌≡◌, refl, sym, ◌∙◌, subst}
 use mathlib.Core.Bool.{true, false, not}
 use mathlib.Core.List.{List, [], ◌∷◌}
-use native.Mathlib.Omega.{arith}
 use borrow.Author.Tests.{not-false}
 use Rattle.lists.specs.Index.{same}
-use Rattle.lists.specs.Check.{Check, ◌⇒◌, Verdict, accepted, refused, first}
+use Rattle.lists.specs.Check.{Verdict, accepted, refused, first}
 use Rattle.lists.specs.TestLaws.{Clean, clean, holds-each, same_eq, first_stops, first_more, first_hit, first_miss, not_of_true, not_of_false}
 use Rattle.protocol.proofs.Demand3.{is_accepted_lem}
 use Rattle.protocol.specs.Key.{Key, key_of, key_checks}
 use Rattle.protocol.specs.Transcript.{Parts, parts_of}
 use Rattle.protocol.specs.Judge.{run_checks}
-use Rattle.protocol.specs.Pair.{Reading, first_different, comparisons, values, execution, finding, same_front, is_accepted, enough, Lengths, pair_checks, read_of, pair, refused_as}
+use Rattle.protocol.specs.Pair.{Reading, refusal, first_different, comparisons, values, execution, finding, same_front, enough, Lengths, pair_checks, read_of, pair}
 use Rattle.protocol.specs.Accepts.{GoodKey}
-use Rattle.refusals.specs.Number.{number_of, none_applies}
-use Rattle.key.specs.declared.Numbers.{Numbers}
+use Rattle.std.specs.Prelude.{Result, Err}
+use Rattle.refusals.specs.declared.Refusal.{Refusal}
+use Rattle.refusals.specs.declared.Refusal.TheVariants.{Room}
+use Rattle.refusals.specs.Refused.{number}
+use Rattle.key.specs.declared.sizes.Numbers.{Numbers}
 use Rattle.key.specs.Numbers.{key_with}
 use Rattle.fork.specs.Fork.{Forking}
 use Rattle.fork.proofs.Forked.{forked}
 use Rattle.side.specs.Side.{Sound}
 use Rattle.accepted.specs.Forks.{fork_checks}
-use Rattle.reading.specs.declared.Reading as code
-use Rattle.reading.specs.declared.Reading.TheVariants.{Refused}
-use Rattle.reading.specs.Answers.{means}
+use Rattle.reading.specs.declared.Finding.{Finding}
 use Rattle.finding.specs.Reads.{Reads}
 use Rattle.pair.specs.Forks.{Forks, Located}
 
@@ -64,17 +64,17 @@ module _ (k : Numbers) (entries x y : List ℕ) (f : Forks (key_with k entries) 
   pub hide_others : h1 ≡ h2 → ⊥
   hide_others z = forking.differ (l.hides1 ∙ (z ∙ sym l.hides2))
 
-pub reads_finding : (K : Key) (P R : Parts) (e : ℕ) {r : code.Reading} {a b c d s t u v : List ℕ} → e ≡ execution K P R
+pub reads_finding : (K : Key) (P R : Parts) (e : ℕ) {r : Result Finding Refusal} {a b c d s t u v : List ℕ} → e ≡ execution K P R
     → Reads (first_different (suc e) (comparisons K P R e) (values K P R e)) r a b c d s t u v → Reads (finding K P R) r a b c d s t u v
 unfolding finding
 reads_finding K P R e {r} {a} {b} {c} {d} {s} {t} {u} {v} is made =
     subst (λ (j : ℕ). Reads (first_different (suc j) (comparisons K P R j) (values K P R j)) r a b c d s t u v) is made
 
 -- ---- refusals
-pub forks_of : (K : Key) (x y : List ℕ) {n : ℕ} → GoodKey K → n ≡ number_of (first (fork_checks K x y)) → n ≡ 0 → Forks K x y
+pub forks_of : (K : Key) (x y : List ℕ) → GoodKey K → first (fork_checks K x y) ≡ accepted → Forks K x y
 unfolding fork_checks
-forks_of K x y key e z =
-    let c : Clean (fork_checks K x y) = clean (fork_checks K x y) (none_applies (fork_checks K x y) (omega arith, (omega arith, (omega arith, (omega arith, tt)))) (sym e ∙ z)) in
+forks_of K x y key e =
+    let c : Clean (fork_checks K x y) = clean (fork_checks K x y) e in
     record {
       key = key;
       first_good = is_accepted_lem (first (run_checks K x)) (not-false _ c.0);
@@ -83,53 +83,33 @@ forks_of K x y key e z =
       hidden_differ = c.1.1.1.0;
     }
 
-pub forks_accepted : (K : Key) (x y : List ℕ) {n : ℕ} → n ≡ number_of (first (fork_checks K x y)) → n ≡ 0 → first (fork_checks K x y) ≡ accepted
-unfolding fork_checks
-forks_accepted K x y e z = none_applies (fork_checks K x y) (omega arith, (omega arith, (omega arith, (omega arith, tt)))) (sym e ∙ z)
-
 -- a refusal leaves every list
-pub reads_refused : (v : Verdict) (x : Reading) {n : ℕ} (a b c d : List ℕ) → n ≡ number_of v → (n ≡ 0 → ⊥) → Reads (read_of v x) (Refused n) a a b b c c d d
+pub reads_refused : (v : Verdict) (x : Reading) {r : Refusal} {o : Result Finding Refusal} (a b c d : List ℕ) → v ≡ refused (number r) → o ≡ Err r
+    → Reads (read_of v x) o a a b b c c d d
 unfolding read_of
-reads_refused accepted x a b c d e h = absurd (h e)
-reads_refused (refused k) x a b c d e h = record { answer = ap refused_as e; hash1 = refl; hash2 = refl; secret = refl; uv = refl }
+reads_refused v x {r} {o} a b c d e h =
+    subst (λ (w : Verdict). Reads (read_of w x) o a a b b c c d d) (sym e)
+    (subst (λ (p : Result Finding Refusal). Reads (refusal (number r)) p a a b b c c d d) (sym h)
+    (record { answer = refl; hash1 = refl; hash2 = refl; secret = refl; uv = refl }))
 
-pub reads_accepted : (v : Verdict) {x : Reading} {r : code.Reading} {a b c d s t u w : List ℕ} → v ≡ accepted → Reads x r a b c d s t u w → Reads (read_of v x) r a b c d s t u w
+pub reads_accepted : (v : Verdict) {x : Reading} {r : Result Finding Refusal} {a b c d s t u w : List ℕ} → v ≡ accepted → Reads x r a b c d s t u w → Reads (read_of v x) r a b c d s t u w
 unfolding read_of
 reads_accepted v {x} {r} {a} {b} {c} {d} {s} {t} {u} {w} e made = subst (λ (y : Verdict). Reads (read_of y x) r a b c d s t u w) (sym e) made
 
 -- ---- from the key's bytes
-module _ (key : List ℕ) (l : Lengths) (x y : List ℕ) {r : code.Reading} {a b c d s t u v : List ℕ} where
-  pub key_refused : {n : ℕ} → r ≡ Refused n → a ≡ b → c ≡ d → s ≡ t → u ≡ v → n ≡ number_of (first (key_checks (key_of key) key)) → (n ≡ 0 → ⊥)
-      → Reads (pair key l x y) r a b c d s t u v
-  unfolding pair pair_checks read_of
-  key_refused {n} er ea ec es eu e h =
-      subst (λ (z : Verdict). Reads (read_of z (finding (key_of key) (parts_of x) (parts_of y))) r a b c d s t u v)
-      (sym (first_stops (key_checks (key_of key) key) _ (refused_by (first (key_checks (key_of key) key)) e h))) (plain n er ea ec es eu)
-    where
-      refused_by : (w : Verdict) → n ≡ number_of w → (n ≡ 0 → ⊥) → w ≡ refused n
-      refused_by accepted e h = absurd (h e)
-      refused_by (refused k) e h = ap refused (sym e)
+pub key_refused : (key : List ℕ) (l : Lengths) (x y : List ℕ) {r : Refusal} {o : Result Finding Refusal} (a b c d : List ℕ)
+    → first (key_checks (key_of key) key) ≡ refused (number r) → o ≡ Err r → Reads (pair key l x y) o a a b b c c d d
+unfolding pair pair_checks
+key_refused key l x y a b c d e h = reads_refused _ _ a b c d (first_stops (key_checks (key_of key) key) _ e) h
 
-      plain : (n : ℕ) → r ≡ Refused n → a ≡ b → c ≡ d → s ≡ t → u ≡ v
-          → Reads (read_of (refused n) (finding (key_of key) (parts_of x) (parts_of y))) r a b c d s t u v
-      plain n er ea ec es eu = record { answer = ap means er; hash1 = sym ea; hash2 = sym ec; secret = sym es; uv = sym eu }
+pub room_refused : (key : List ℕ) (l : Lengths) (x y a b c d : List ℕ) → first (key_checks (key_of key) key) ≡ accepted → enough (key_of key) l ≡ false
+    → Reads (pair key l x y) (Err Room) a a b b c c d d
+unfolding pair pair_checks
+room_refused key l x y a b c d good e =
+    reads_refused _ _ a b c d (first_more (key_checks (key_of key) key) _ good ∙ first_hit (not (enough (key_of key) l)) 11 _ (not_of_false e)) refl
 
+module _ (key : List ℕ) (l : Lengths) (x y : List ℕ) {r : Result Finding Refusal} {a b c d s t u v : List ℕ} where
   module _ (good : first (key_checks (key_of key) key) ≡ accepted) where
-    pub room_refused : r ≡ Refused 11 → a ≡ b → c ≡ d → s ≡ t → u ≡ v → enough (key_of key) l ≡ false → Reads (pair key l x y) r a b c d s t u v
-    unfolding pair pair_checks read_of
-    room_refused er ea ec es eu e =
-        subst (λ (z : Verdict). Reads (read_of z (finding (key_of key) (parts_of x) (parts_of y))) r a b c d s t u v)
-        (sym (first_more (key_checks (key_of key) key) _ good ∙ first_hit (not (enough (key_of key) l)) 11 (fork_checks_of) (not_of_false e)))
-        (record { answer = ap means er; hash1 = sym ea; hash2 = sym ec; secret = sym es; uv = sym eu })
-      where
-        fork_checks_of : List Check
-        fork_checks_of =
-            not (is_accepted (first (run_checks (key_of key) x))) ⇒ 20
-            ∷ not (is_accepted (first (run_checks (key_of key) y))) ⇒ 21
-            ∷ not (same_front (key_of key) (parts_of x) (parts_of y)) ⇒ 22
-            ∷ same (parts_of x).p6 (parts_of y).p6 ⇒ 23
-            ∷ []
-
     pub run_read : {K : Key} → K ≡ key_of key → enough (key_of key) l ≡ true
         → Reads (read_of (first (fork_checks K x y)) (finding K (parts_of x) (parts_of y))) r a b c d s t u v → Reads (pair key l x y) r a b c d s t u v
     unfolding pair pair_checks fork_checks

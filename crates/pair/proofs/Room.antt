@@ -1,18 +1,29 @@
 -- The lengths of the lent lists, one after the other.
 -- Assumes nothing.
 use Prim.Native.Nat.{ℕ, ◌+◌, ◌*◌, ◌≤◌, ◌<◌}
-use mathlib.Core.Path.{◌≡◌, sym, ap₂, subst}
-use mathlib.Core.Bool.{true, false}
+use mathlib.Core.Path.{◌≡◌, refl, sym, ap₂, subst}
+use mathlib.Core.Bool.{Bool, true, false}
 use mathlib.Core.List.{[], ◌∷◌}
 use borrow.Author.Tests.{le-leb, lt-leb, leb-true}
 use lib.Dec.{leb}
-use Rattle.lists.specs.TestLaws.{Holds, holds-each, each_holds, holds-fails}
+use Rattle.lists.specs.Index.{pick, holds}
+use Rattle.lists.specs.TestLaws.{Holds, holds-each, holds-fails}
 use Rattle.protocol.specs.Key.{Key, entries}
 use Rattle.protocol.specs.Pair.{enough}
-use Rattle.key.specs.declared.Numbers.{Numbers}
+use Rattle.key.specs.declared.sizes.Numbers.{Numbers}
 use Rattle.key.specs.Numbers.{Of}
 use Rattle.key.specs.KeyLaws.{entries_of}
 use Rattle.pair.specs.Lent.{lengths}
+
+pub hash1_short : (hash1 hash2 secret uv entry work : ℕ) (K : Key) → hash1 < 16400 → false ≡ enough K (lengths hash1 hash2 secret uv entry work)
+unfolding enough
+hash1_short hash1 hash2 secret uv entry work K h =
+    sym (holds-fails (leb (4 * K.m * K.N) work ∷ leb (entries K) entry ∷ leb 16400 hash1 ∷ leb 16400 hash2 ∷ leb K.m secret ∷ leb (K.n + K.m) uv ∷ []) 2 (lt-leb 16400 hash1 h))
+
+pub hash2_short : (hash1 hash2 secret uv entry work : ℕ) (K : Key) → hash2 < 16400 → false ≡ enough K (lengths hash1 hash2 secret uv entry work)
+unfolding enough
+hash2_short hash1 hash2 secret uv entry work K h =
+    sym (holds-fails (leb (4 * K.m * K.N) work ∷ leb (entries K) entry ∷ leb 16400 hash1 ∷ leb 16400 hash2 ∷ leb K.m secret ∷ leb (K.n + K.m) uv ∷ []) 3 (lt-leb 16400 hash2 h))
 
 module _ (k : Numbers) (hash1 hash2 secret uv entry work : ℕ) (K : Key) (of : Of k K) where
   work_is : 4 * k.m * k.parties ≡ 4 * K.m * K.N
@@ -29,40 +40,27 @@ module _ (k : Numbers) (hash1 hash2 secret uv entry work : ℕ) (K : Key) (of : 
   unfolding enough
   entries_short h = sym (holds-fails (leb (4 * K.m * K.N) work ∷ leb (entries K) entry ∷ leb 16400 hash1 ∷ leb 16400 hash2 ∷ leb K.m secret ∷ leb (K.n + K.m) uv ∷ []) 1 (lt-leb (entries K) entry (subst (λ (y : ℕ). entry < y) (entries_of k K of) h)))
 
-  pub hash1_short : hash1 < 16400 → false ≡ enough K (lengths hash1 hash2 secret uv entry work)
-  unfolding enough
-  hash1_short h = sym (holds-fails (leb (4 * K.m * K.N) work ∷ leb (entries K) entry ∷ leb 16400 hash1 ∷ leb 16400 hash2 ∷ leb K.m secret ∷ leb (K.n + K.m) uv ∷ []) 2 (lt-leb 16400 hash1 h))
-
-  pub hash2_short : hash2 < 16400 → false ≡ enough K (lengths hash1 hash2 secret uv entry work)
-  unfolding enough
-  hash2_short h = sym (holds-fails (leb (4 * K.m * K.N) work ∷ leb (entries K) entry ∷ leb 16400 hash1 ∷ leb 16400 hash2 ∷ leb K.m secret ∷ leb (K.n + K.m) uv ∷ []) 3 (lt-leb 16400 hash2 h))
-
   pub secret_short : secret < k.m → false ≡ enough K (lengths hash1 hash2 secret uv entry work)
   unfolding enough
   secret_short h = sym (holds-fails (leb (4 * K.m * K.N) work ∷ leb (entries K) entry ∷ leb 16400 hash1 ∷ leb 16400 hash2 ∷ leb K.m secret ∷ leb (K.n + K.m) uv ∷ []) 4 (lt-leb K.m secret (subst (λ (y : ℕ). secret < y) of.m_is h)))
 
-  pub uv_short : uv < k.n + k.m → false ≡ enough K (lengths hash1 hash2 secret uv entry work)
-  unfolding enough
-  uv_short h = sym (holds-fails (leb (4 * K.m * K.N) work ∷ leb (entries K) entry ∷ leb 16400 hash1 ∷ leb 16400 hash2 ∷ leb K.m secret ∷ leb (K.n + K.m) uv ∷ []) 5 (lt-leb (K.n + K.m) uv (subst (λ (y : ℕ). uv < y) errors_are h)))
-
-  pub all_enough : 4 * k.m * k.parties ≤ work → k.n * (k.m + 1) ≤ entry → 16400 ≤ hash1 → 16400 ≤ hash2 → k.m ≤ secret → k.n + k.m ≤ uv
-      → true ≡ enough K (lengths hash1 hash2 secret uv entry work)
-  unfolding enough
-  all_enough a b c d e f =
+  pub all_but_uv : 4 * k.m * k.parties ≤ work → k.n * (k.m + 1) ≤ entry → 16400 ≤ hash1 → 16400 ≤ hash2 → k.m ≤ secret
+      → leb (k.n + k.m) uv ≡ enough K (lengths hash1 hash2 secret uv entry work)
+  unfolding enough holds
+  all_but_uv a b c d e =
       sym
-      (each_holds (leb (4 * K.m * K.N) work ∷ leb (entries K) entry ∷ leb 16400 hash1 ∷ leb 16400 hash2 ∷ leb K.m secret ∷ leb (K.n + K.m) uv ∷ []) (
+      (rw (
         le-leb (4 * K.m * K.N) work (subst (λ (y : ℕ). y ≤ work) work_is a),
-        (
-          le-leb (entries K) entry (subst (λ (y : ℕ). y ≤ entry) (entries_of k K of) b),
-          (
-            le-leb 16400 hash1 c,
-            (
-              le-leb 16400 hash2 d,
-              (le-leb K.m secret (subst (λ (y : ℕ). y ≤ secret) of.m_is e), (le-leb (K.n + K.m) uv (subst (λ (y : ℕ). y ≤ uv) errors_are f), tt)),
-            ),
-          ),
-        ),
-      ))
+        le-leb (entries K) entry (subst (λ (y : ℕ). y ≤ entry) (entries_of k K of) b),
+        le-leb 16400 hash1 c,
+        le-leb 16400 hash2 d,
+        le-leb K.m secret (subst (λ (y : ℕ). y ≤ secret) of.m_is e),
+        ← errors_are,
+      ) (last (leb (k.n + k.m) uv)))
+    where
+      last : (t : Bool) → pick t true false ≡ t
+      last true = refl
+      last false = refl
 
 -- lists that are long enough, by the numbers that were read
 pub record Enough (k : Numbers) (hash1 hash2 secret uv entry work : ℕ) : Type 0 where

@@ -1,9 +1,7 @@
 -- The answers of the C function for numbers.
 -- Assumes nothing.
-use Prim.Native.Nat.{ℕ, ◌<◌, ◌≤◌}
-use mathlib.Core.Path.{◌≡◌}
-use mathlib.Core.Bool.{true, false}
-use borrow.Author.Tests.{le-leb, lt-leb, eq-eqb, ne_eqb}
+use Rattle.std.proofs.Common.{◌≡◌, ℕ, ◌<◌, ◌≤◌, true, false}
+use Rattle.std.proofs.lemmas.Bool.{le-leb, lt-leb, eq-eqb, ne_eqb}
 use Rattle.lists.specs.Index.{member}
 use Rattle.numbers.specs.Inverse.{qs}
 use Rattle.primitives.specs.Numbers.{answer}
@@ -17,9 +15,9 @@ module _ (q seed long c : ℕ) where
   unfolding answer
   answer_seed e h = rw (e, ne_eqb seed 16 h)
 
-  pub answer-long : member q qs ≡ true → seed ≡ 16 → 4294967295 < long → 11 ≡ answer q seed long c
+  pub answer_long : member q qs ≡ true → seed ≡ 16 → 4294967295 < long → 11 ≡ answer q seed long c
   unfolding answer
-  answer-long e s h = rw (e, eq-eqb seed 16 s, lt-leb long 4294967295 h)
+  answer_long e s h = rw (e, eq-eqb seed 16 s, lt-leb long 4294967295 h)
 
   pub answer_far : member q qs ≡ true → seed ≡ 16 → long ≤ 4294967295 → 4611686018427387903 < c → 11 ≡ answer q seed long c
   unfolding answer

@@ -1,11 +1,20 @@
 -- Document 01, "Where each number is given": what a call of the prover answers.
 -- Assumes nothing.
-use Rattle.std.specs.Prelude.{ℕ, List, length}
+use Rattle.std.specs.Prelude.{ℕ, List, length, Result, Ok, Err}
 use Rattle.lists.specs.Check.{Verdict, accepted, refused}
-use Rattle.prover.specs.declared.Answer.{Answer}
-use Rattle.prover.specs.declared.Answer.TheVariants.{Length, Refused}
+use Rattle.refusals.specs.declared.Refusal.{Refusal}
+use Rattle.refusals.specs.Refused.{number}
 
 -- the length of the message, or the number of the refusal
+pub data Answer : Type 0 where
+  Length : ℕ → Answer
+  Refused : ℕ → Answer
+
 abbrev pub answer_of : Verdict → List ℕ → Answer
 answer_of accepted message = Length (length message)
 answer_of (refused n) message = Refused n
+
+-- what a result of the code says
+abbrev pub said : Result ℕ Refusal → Answer
+said (Ok n) = Length n
+said (Err r) = Refused (number r)

@@ -4,13 +4,11 @@
 ghost use Rattle.std.specs.Prelude.{◌≡◌, ◌++◌, ◌≤◌, length, take, drop};
 
 pub mod checks;
+mod lent;
+mod materials;
 
-// The length of the message that was written, or the number of the refusal.
-#[derive(Clone, Copy)]
-pub enum Answer {
-    Length(usize),
-    Refused(u32),
-}
+pub use lent::Lent;
+pub use materials::{Materials, master};
 
 // The first `count` bytes of a list to the front of an output; what stands behind them stays.
 pub fn put(count: usize, src: &[u8], out: &mut [u8])

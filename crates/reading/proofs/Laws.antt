@@ -3,61 +3,58 @@
 use Prim.Native.Nat.{ℕ, ◌+◌, ◌*◌, ◌-◌, ◌%◌, ◌<◌, ◌≤◌}
 use mathlib.Core.Path.{◌≡◌, refl, sym, ◌∙◌, ap}
 use mathlib.Core.Bool.{Bool, true, false, not}
-use mathlib.Core.List.{List, [], ◌∷◌, ◌++◌, append-nil}
+use mathlib.Core.List.{List, [], ◌∷◌, ◌++◌}
 use native.Mathlib.Nat.{mod-mod}
 use native.Mathlib.Numerals.{add-one}
 use native.Mathlib.Omega.{arith}
-use borrow.Author.Count.{below_more}
-use borrow.Author.Tests.{eq-eqb, ne_eqb, lt-ltb, le-ltb, leb-true}
+use borrow.Author.Tests.{eq-eqb, ne_eqb, lt-ltb, le-ltb, leb-true, not-true}
 use lib.Dec.{eqb, leb, ltb}
-use lib.ListN.{length, get_or, take, drop, length-append, length-drop, drop_of_length-le}
-use lib.Seq.{length-take-le, take_at}
+use Rattle.std.specs.Prelude.{Ok}
+use Rattle.std.proofs.lemmas.List.{get_or-drop, take_all}
+use lib.ListN.{length, get_or, take, drop, length-append, length-drop}
 use Rattle.lists.specs.Tab.{tab, tab-length}
-use Rattle.lists.specs.Index.{pick, every, holds}
-use Rattle.lists.specs.TestLaws.{least-found, least-none, every-next, every_stops, every-at, pick_true, pick_false, holds-each, Holds, holds-fails}
+use Rattle.lists.specs.Index.{pick, every, least, holds}
+use Rattle.lists.specs.TestLaws.{least-found, least-none, every-next, every_stops, every-at, every_ext, pick_true, pick_false, holds-each, Holds, holds-fails}
 use Rattle.numbers.specs.Mod.{sub}
 use Rattle.numbers.proofs.Mod.{sub_below}
-use Rattle.numbers.specs.Sum.{sum}
 use Rattle.numbers.specs.Output.{u_of, v_of}
 use Rattle.numbers.specs.Residue.{Residue}
-use Rattle.protocol.specs.Key.{Key, A, t}
+use Rattle.protocol.specs.Key.{Key, t}
 use Rattle.protocol.specs.Prover.{solves, binary}
 use Rattle.protocol.specs.Pair.{Reading, secret, square, errors, says}
-use Rattle.key.specs.declared.Numbers.{Numbers}
-use Rattle.key.specs.Numbers.{key_with}
-use Rattle.reading.specs.declared.Reading.TheVariants.{Secret, Square, Errors}
+use Rattle.reading.specs.declared.Finding.TheVariants.{Secret, Square, Errors}
 use Rattle.reading.specs.Answers.{bits_of, errors_of}
-use Rattle.reading.specs.Found.{s_at, u_at, is_wrong, wrong_at, is_secret, uv_at, found, Finds}
+use Rattle.reading.specs.Found.{row_of, s_at, u_at, is_wrong, wrong_at, is_secret, uv_at, found, Finds}
 
 -- ---- squares
 
--- d(i) is b(i)² for each i below k
-pub record Squared (q m : ℕ) (x : List ℕ) (k : ℕ) : Type 0 where
-  pub before : (i : ℕ) → i < k → is_wrong q m x i ≡ false
+-- the squares before k are right
+pub squared_next : (q m k : ℕ) (x : List ℕ) {v : ℕ} → every k (λ i. not (is_wrong q m x i)) ≡ true → v ≡ (get_or x k 0 * get_or x k 0) % q
+    → get_or x (m + k) 0 ≡ v → every (k + 1) (λ i. not (is_wrong q m x i)) ≡ true
+squared_next q m k x {v} so is e =
+    every-next k (λ i. not (is_wrong q m x i)) so
+    ∙ ap (λ (c : Bool). not (not c)) (eq-eqb (get_or x (m + k) 0) ((get_or x k 0 * get_or x k 0) % q) (e ∙ is))
 
-pub squared_none : (q m : ℕ) (x : List ℕ) → Squared q m x 0
-squared_none q m x = record { before = λ i h. absurd (omega arith) }
+right_before : (q m k : ℕ) (x : List ℕ) → every k (λ i. not (is_wrong q m x i)) ≡ true → (i : ℕ) → i < k → is_wrong q m x i ≡ false
+right_before q m k x so i h = not_right (every-at k (λ j. not (is_wrong q m x j)) so i h)
+  where
+    not_right : {c : Bool} → not c ≡ true → c ≡ false
+    not_right {c} e = not-true c e
 
-module _ {q m k : ℕ} {x : List ℕ} (v : ℕ) (so : Squared q m x k) (is : v ≡ (get_or x k 0 * get_or x k 0) % q) where
-  pub squared_next : get_or x (m + k) 0 ≡ v → Squared q m x (k + 1)
-  squared_next e =
-      record {
-        before =
-            below_more (λ i. is_wrong q m x i ≡ false) k so.before
-            (ap not (eq-eqb (get_or x (m + k) 0) ((get_or x k 0 * get_or x k 0) % q) (e ∙ is)));
-      }
-
-  pub wrong_found : k < m → (get_or x (m + k) 0 ≡ v → ⊥) → k ≡ wrong_at q m x
-  unfolding wrong_at
-  wrong_found h ne =
-      sym
-      (least-found m (is_wrong q m x) k h
-      (ap not (ne_eqb (get_or x (m + k) 0) ((get_or x k 0 * get_or x k 0) % q) (λ z. ne (z ∙ sym is))))
-      so.before)
-
-pub wrong_none : {q m k : ℕ} {x : List ℕ} → Squared q m x k → k ≡ m → m ≡ wrong_at q m x
+pub wrong_found : (q m k : ℕ) (x : List ℕ) {v : ℕ} → every k (λ i. not (is_wrong q m x i)) ≡ true → v ≡ (get_or x k 0 * get_or x k 0) % q
+    → k < m → (get_or x (m + k) 0 ≡ v → ⊥) → k ≡ wrong_at q m x
 unfolding wrong_at
-wrong_none {q} {m} {k} {x} so e = sym (least-none m (is_wrong q m x) (λ i h. so.before i (omega arith)))
+wrong_found q m k x {v} so is h ne =
+    sym
+    (least-found m (is_wrong q m x) k h
+    (ap not (ne_eqb (get_or x (m + k) 0) ((get_or x k 0 * get_or x k 0) % q) (λ z. ne (z ∙ sym is))))
+    (right_before q m k x so))
+
+pub wrong_none : (q m k : ℕ) (x : List ℕ) → every k (λ i. not (is_wrong q m x i)) ≡ true → m ≤ k → m ≤ wrong_at q m x
+unfolding wrong_at
+wrong_none q m k x so e =
+    let z : least m (is_wrong q m x) ≡ m = least-none m (is_wrong q m x) (λ i h. right_before q m k x so i (omega arith)) in
+    omega (arith, z)
 
 -- ---- differences
 
@@ -75,34 +72,36 @@ v_is q m x j r e = e
 
 -- ---- rows
 
-module _ (k : Numbers) (entries x : List ℕ) where
-  -- row l of A times s
-  abbrev pub row_at : ℕ → ℕ
-  row_at l = sum k.m (λ j. A (key_with k entries) l j * s_at k.m x j)
-
+module _ (K : Key) (x : List ℕ) where
   abbrev pub is_row : ℕ → Bool
-  is_row l = eqb (row_at l % k.q) (t (key_with k entries) l)
+  is_row l = eqb (row_of K x l % K.q) (t K l)
 
-  pub row_is : (l from r : ℕ) → from ≡ l * k.m → Residue k.q (sum k.m (λ j. get_or entries (from + j) 0 * get_or x (2 * k.m + j) 0) % k.q) r
-      → Residue k.q (row_at l % k.q) r
-  row_is l from r e h = rw e at h
-
-  pub rows_next : (l r : ℕ) → every l is_row ≡ true → r ≡ row_at l % k.q → r ≡ t (key_with k entries) l → every (l + 1) is_row ≡ true
+  pub rows_next : (l r : ℕ) → every l is_row ≡ true → r ≡ row_of K x l % K.q → r ≡ t K l → every (l + 1) is_row ≡ true
   rows_next l r so e h = every-next l is_row so ∙ eq-eqb _ _ (sym e ∙ h)
 
-  pub rows_stop : (l r : ℕ) → l < k.n → r ≡ row_at l % k.q → (r ≡ t (key_with k entries) l → ⊥) → false ≡ solves (key_with k entries) (s_at k.m x)
+  pub rows_stop : (l r : ℕ) → l < K.n → r ≡ row_of K x l % K.q → (r ≡ t K l → ⊥) → false ≡ solves K (s_at K.m x)
   unfolding solves
-  rows_stop l r h e ne = sym (every_stops k.n is_row l h (ne_eqb (row_at l % k.q) (t (key_with k entries) l) (λ z. ne (e ∙ z))))
+  rows_stop l r h e ne = sym (every_stops K.n is_row l h (ne_eqb (row_of K x l % K.q) (t K l) (λ z. ne (e ∙ z))))
 
-  pub rows_all : (l : ℕ) → l ≡ k.n → every l is_row ≡ true → true ≡ solves (key_with k entries) (s_at k.m x)
+  pub rows_all : (l : ℕ) → l ≡ K.n → every l is_row ≡ true → true ≡ solves K (s_at K.m x)
   unfolding solves
   rows_all l e so = sym (rw e at so)
 
-  pub u_is : (l row r : ℕ) → row ≡ row_at l % k.q → Residue k.q (sub k.q (t (key_with k entries) l) row) r → r ≡ u_at (key_with k entries) x l
+  pub u_is : (l row r : ℕ) → row ≡ row_of K x l % K.q → Residue K.q (sub K.q (t K l) row) r → r ≡ u_at K x l
   unfolding u_of
-  u_is l row r e so = (sub_reduced (t (key_with k entries) l) (row_at l) row e so).is
+  u_is l row r e so = (sub_reduced (t K l) (row_of K x l) row e so).is
 
 -- ---- the test of a secret
+
+pub bits_of_all : (m : ℕ) (x : List ℕ) {r : Bool} → length x ≡ 3 * m
+    → r ≡ every (length (take (length x - 2 * m) (drop (2 * m) x))) (λ j. leb (get_or (take (length x - 2 * m) (drop (2 * m) x)) j 0) 1)
+    → r ≡ every m (λ j. leb (s_at m x j) 1)
+bits_of_all m x long e =
+    let w : length (drop (2 * m) x) ≡ m = simp length-drop (omega arith) in
+    let all : take (length x - 2 * m) (drop (2 * m) x) ≡ drop (2 * m) x = take_all (length x - 2 * m) (drop (2 * m) x) (omega (arith, w)) in
+    (rw all at e)
+    ∙ ap (λ (n : ℕ). every n (λ j. leb (get_or (drop (2 * m) x) j 0) 1)) w
+    ∙ every_ext m _ _ (λ j h. ap (λ (v : ℕ). leb v 1) (get_or-drop (2 * m) x j 0))
 
 module _ (K : Key) (x : List ℕ) where
   pub secret_no : solves K (s_at K.m x) ≡ false → false ≡ is_secret K x
@@ -123,26 +122,6 @@ module _ (K : Key) (x : List ℕ) where
       let so : Holds (solves K (s_at K.m x) ∷ binary K (s_at K.m x) ∷ []) = holds-each _ e in
       leb-true (s_at K.m x j) 1 (every-at K.m (λ i. leb (s_at K.m x i) 1) so.1.0 j h)
 
--- ---- a list of n + m whose first n, then the rest, were lent and came back filled
-
-module _ (n m : ℕ) (us out : List ℕ) (f : ℕ → ℕ) (is : us ≡ tab n f) (long : length out ≡ n + m) where
-  us_long : length us ≡ n
-  us_long = ap length is ∙ tab-length n f
-
-  whole_long : length (us ++ drop n out) ≡ n + m
-  whole_long = length-append us (drop n out) ∙ simp length-drop (omega (arith, us_long))
-
-  pub rest_long : length (take (length (us ++ drop n out) - n) (drop n (us ++ drop n out))) ≡ m
-  rest_long =
-      length-take-le (length (us ++ drop n out) - n) (drop n (us ++ drop n out)) (simp length-drop (omega arith))
-      ∙ (omega (arith, whole_long))
-
-  pub both_filled : (vs : List ℕ) (g : ℕ → ℕ) → vs ≡ tab m g
-      → take n (us ++ drop n out) ++ (vs ++ drop (length (us ++ drop n out) - n) (drop n (us ++ drop n out))) ≡ tab n f ++ tab m g
-  both_filled vs g e =
-      let past : length (drop n (us ++ drop n out)) ≤ length (us ++ drop n out) - n = simp length-drop (omega arith) in
-      rw (drop_of_length-le (drop n (us ++ drop n out)) past, append-nil, take_at us (drop n out) n us_long, e, is)
-
 -- ---- the three answers
 
 module _ (K : Key) (e : ℕ) (x : List ℕ) where
@@ -162,7 +141,7 @@ module _ (K : Key) (e : ℕ) (x : List ℕ) where
       pick_false (is_secret K x) _ _ h ∙ rw (← z, add-one e) (pick_false (ltb w K.m) _ _ (le-ltb w K.m l))
 
   pub finds_secret : (bits bits₀ errs : List ℕ) → is_secret K x ≡ true → bits ≡ tab K.m (s_at K.m x)
-      → Finds (found K e x) Secret bits₀ (bits ++ drop K.m bits₀) errs errs
+      → Finds (found K e x) (Ok Secret) bits₀ (bits ++ drop K.m bits₀) errs errs
   finds_secret bits bits₀ errs h is =
       let z : found K e x ≡ secret (tab K.m (s_at K.m x)) = found_secret h in
       record {
@@ -172,7 +151,7 @@ module _ (K : Key) (e : ℕ) (x : List ℕ) where
       }
 
   pub finds_square : (w : ℕ) (bits errs : List ℕ) → is_secret K x ≡ false → w ≡ wrong_at K.q K.m x → w < K.m
-      → Finds (found K e x) (Square (e + 1) (w + 1) (get_or x w 0) (get_or x (K.m + w) 0)) bits bits errs errs
+      → Finds (found K e x) (Ok (Square (e + 1) (w + 1) (get_or x w 0) (get_or x (K.m + w) 0))) bits bits errs errs
   finds_square w bits errs h is l =
       let z : found K e x ≡ square (e + 1) (w + 1) (get_or x w 0) (get_or x (K.m + w) 0) = found_square w h is l in
       record { answer = sym (ap says z); secret = sym (ap (λ (v : Reading). bits_of v bits) z); uv = sym (ap (λ (v : Reading). errors_of v errs) z) }
@@ -182,7 +161,7 @@ module _ (K : Key) (e : ℕ) (x : List ℕ) where
   uv_long = simp (length-append, tab-length) refl
 
   pub finds_errors : (w : ℕ) (bits errs errs₀ : List ℕ) → is_secret K x ≡ false → w ≡ wrong_at K.q K.m x → K.m ≤ w → errs ≡ uv_at K x
-      → Finds (found K e x) (Errors (e + 1)) bits bits errs₀ (errs ++ drop (K.n + K.m) errs₀)
+      → Finds (found K e x) (Ok (Errors (e + 1))) bits bits errs₀ (errs ++ drop (K.n + K.m) errs₀)
   finds_errors w bits errs errs₀ h is l so =
       let z : found K e x ≡ errors (e + 1) (uv_at K x) = found_errors w h is l in
       record {

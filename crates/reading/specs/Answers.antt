@@ -1,23 +1,26 @@
 -- What each answer of the pair reader means in document 01's numbers, and what it leaves in each lent list. What follows the part that
 -- is written stays as it was.
 -- Assumes nothing.
-use Rattle.std.specs.Prelude.{List, ◌++◌, ℕ, length, drop}
+use Rattle.std.specs.Prelude.{List, ◌++◌, ℕ, length, drop, Result, Ok, Err}
+use Rattle.refusals.specs.declared.Refusal.{Refusal}
+use Rattle.refusals.specs.Refused.{number}
 use Rattle.protocol.specs.Pair as pair
 use Rattle.protocol.specs.Pair.{refusal, collision, secret, square, errors, Said, refused_as, found_as, value_list}
-use Rattle.reading.specs.declared.Reading.{Reading}
-use Rattle.reading.specs.declared.Reading.TheVariants.{Refused, Collision, Secret, Square, Errors}
+use Rattle.compare.specs.Kinds as kinds
+use Rattle.reading.specs.declared.Finding.{Finding}
+use Rattle.reading.specs.declared.Finding.TheVariants.{Collision, Secret, Square, Errors}
 
 -- a list whose front is written over
 abbrev pub over : List ℕ → List ℕ → List ℕ
 over l before = l ++ drop (length l) before
 
 -- document 01's number and values of each case of the answer
-abbrev pub means : Reading → Said
-means (Refused n) = refused_as n
-means (Collision kind e i n) = found_as 1 (value_list kind e i n 0 0 0)
-means Secret = found_as 2 (value_list 0 0 0 0 0 0 0)
-means (Square e k b d) = found_as 3 (value_list 0 e 0 0 k b d)
-means (Errors e) = found_as 4 (value_list 0 e 0 0 0 0 0)
+abbrev pub means : Result Finding Refusal → Said
+means (Ok (Collision kind e i n)) = found_as 1 (value_list (kinds.number kind) e i n 0 0 0)
+means (Ok Secret) = found_as 2 (value_list 0 0 0 0 0 0 0)
+means (Ok (Square e k b d)) = found_as 3 (value_list 0 e 0 0 k b d)
+means (Ok (Errors e)) = found_as 4 (value_list 0 e 0 0 0 0 0)
+means (Err r) = refused_as (number r)
 
 -- both hash inputs of a collision
 abbrev pub hash1_of : pair.Reading → List ℕ → List ℕ

@@ -1,6 +1,6 @@
 -- The findings 2, 3 and 4 from the joined values in a list: b, then d, then s, m numbers each.
 -- Assumes nothing.
-use Rattle.std.specs.Prelude.{ℕ, zero, suc, ◌+◌, ◌*◌, ◌%◌, ◌≤◌, ◌<◌, ◌≡◌, refl, Bool, true, false, ltb, length, get_or}
+use Rattle.std.specs.Prelude.{ℕ, zero, suc, ◌+◌, ◌*◌, ◌%◌, ◌<◌, ◌≡◌, refl, Bool, true, false, ltb, get_or, Result}
 use Rattle.std.proofs.Math.Path.{sym, ap, ap₂}
 use Rattle.std.proofs.Common.{◌∙◌, arith, ltb-true}
 use Rattle.std.proofs.Math.Bool.{not}
@@ -18,21 +18,18 @@ use Rattle.protocol.specs.Shares.{sq, b, d, s}
 use Rattle.protocol.specs.Prover.{solves, binary}
 use Rattle.protocol.specs.Transcript.{Parts}
 use Rattle.protocol.specs.Pair.{Reading, secret, square, errors, joined, uv, wrong_square, values, says}
-use Rattle.key.specs.declared.Numbers.{Numbers}
-use Rattle.key.specs.Numbers.{Limits}
 use Rattle.joined.specs.Joined.{Joined}
-use Rattle.reading.specs.declared.Reading as code
+use Rattle.refusals.specs.declared.Refusal.{Refusal}
+use Rattle.reading.specs.declared.Finding.{Finding}
 use Rattle.reading.specs.Answers.{means, bits_of, errors_of}
-
--- the lists are long enough for a key that was read
-pub record Ready (k : Numbers) (entries sums : List ℕ) : Type 0 where
-  pub limits : Limits k
-  pub entries_long : k.n * (k.m + 1) ≤ length entries
-  pub sums_long : length sums ≡ 3 * k.m
 
 -- s(k)
 abbrev pub s_at : ℕ → List ℕ → ℕ → ℕ
 s_at m x k = get_or x (2 * m + k) 0
+
+-- row l of A times s
+abbrev pub row_of : Key → List ℕ → ℕ → ℕ
+row_of K x l = sum K.m (λ j. A K l j * s_at K.m x j)
 
 -- d(k) isn't b(k)²
 abbrev pub is_wrong : ℕ → ℕ → List ℕ → ℕ → Bool
@@ -60,7 +57,7 @@ found K e x =
     (errors (suc e) (uv_at K x)))
 
 -- the answer's number and values, and the secret output and the u and v list, before and after
-pub record Finds (f : Reading) (r : code.Reading) (bits bits' errs errs' : List ℕ) : Type 0 where
+pub record Finds (f : Reading) (r : Result Finding Refusal) (bits bits' errs errs' : List ℕ) : Type 0 where
   pub answer : means r ≡ says f
   pub secret : bits' ≡ bits_of f bits
   pub uv : errs' ≡ errors_of f errs

@@ -1,59 +1,90 @@
-// The numbers that a refusal returns, in rising order; document 01's table "Where each number is given" has the order in which they are
-// tried. 0 stands for none.
+// Why a call is refused (document 01, "Where each number is given"), by number in rising order; the document's table has the order in which
+// they are tried.
 #![tactic(auto)]
 
-// The key, first in every call.
-// Under 24 bytes.
-pub const KEY_SHORT: u32 = 1;
-// q is not listed.
-pub const KEY_MODULUS: u32 = 2;
-// n, m, N, M or τ is outside its limits.
-pub const KEY_LIMITS: u32 = 3;
-// The length isn't 24 + 4n(m + 1).
-pub const KEY_LENGTH: u32 = 4;
-// An entry is q or more.
-pub const KEY_ENTRY: u32 = 5;
+ghost use Rattle.std.specs.Prelude.{◌≡◌};
+ghost use Rattle.refusals.specs.Refused.{number};
 
-// The prover's inputs; 7 and 10 in a transcript as well.
-// A seed, seed list or secret list of wrong length.
-pub const INPUT_LENGTH: u32 = 6;
-// E isn't τ strictly rising values in 1..M.
-pub const OPENED_LIST: u32 = 7;
-// A secret entry isn't 0 or 1.
-pub const SECRET_ENTRY: u32 = 8;
-// A·s isn't t.
-pub const SECRET_IMAGE: u32 = 9;
-// The hidden list isn't M - τ values in 1..N.
-pub const HIDDEN_LIST: u32 = 10;
+use std::fmt;
 
-// Lent outputs and work lists.
-// A lent output or work list is too short, or the place is past the output's end.
-pub const ROOM: u32 = 11;
+#[derive(Clone, Copy, Debug, PartialEq, Eq)]
+pub enum Refusal {
+    // The key, first in every call.
+    // Under 24 bytes.
+    KeyShort = 1,
+    // q is not listed.
+    KeyModulus = 2,
+    // n, m, N, M or τ is outside its limits.
+    KeyLimits = 3,
+    // The length isn't 24 + 4n(m + 1).
+    KeyLength = 4,
+    // An entry is q or more.
+    KeyEntry = 5,
 
-// A transcript.
-// The first six pairs, or any offset, or the file's end is wrong.
-pub const HEADER: u32 = 12;
-// The seventh length is wrong.
-pub const REPLIES_LENGTH: u32 = 13;
-// A number of part 7 is q or more.
-pub const REPLIES_NUMBER: u32 = 14;
-// The o of a kept execution do not add up to 0.
-pub const OUTPUT_SUM: u32 = 15;
-// Ω of a kept execution is wrong.
-pub const OMEGA: u32 = 16;
-// hΓ is wrong.
-pub const H_GAMMA: u32 = 17;
-// hπ is wrong.
-pub const H_PI: u32 = 18;
-// hψ is wrong.
-pub const H_PSI: u32 = 19;
+    // The prover's inputs; 7 and 10 in a transcript as well.
+    // A seed, seed list or secret list of wrong length.
+    InputLength = 6,
+    // E isn't τ strictly rising values in 1..M.
+    OpenedList = 7,
+    // A secret entry isn't 0 or 1.
+    SecretEntry = 8,
+    // A·s isn't t.
+    SecretImage = 9,
+    // The hidden list isn't M - τ values in 1..N.
+    HiddenList = 10,
 
-// A pair of transcripts.
-// The first is not accepted.
-pub const FIRST_RUN: u32 = 20;
-// The second is not accepted.
-pub const SECOND_RUN: u32 = 21;
-// Parts 1 to 5 differ.
-pub const FRONTS_DIFFER: u32 = 22;
-// The hidden lists are equal.
-pub const HIDDEN_EQUAL: u32 = 23;
+    // Lent outputs and work lists.
+    // A lent output or work list is too short, or the place is past the output's end.
+    Room = 11,
+
+    // A transcript.
+    // The first six pairs, or any offset, or the file's end is wrong.
+    Header = 12,
+    // The seventh length is wrong.
+    RepliesLength = 13,
+    // A number of part 7 is q or more.
+    RepliesNumber = 14,
+    // The o of a kept execution do not add up to 0.
+    OutputSum = 15,
+    // Ω of a kept execution is wrong.
+    Omega = 16,
+    // hΓ is wrong.
+    HGamma = 17,
+    // hπ is wrong.
+    HPi = 18,
+    // hψ is wrong.
+    HPsi = 19,
+
+    // A pair of transcripts.
+    // The first is not accepted.
+    FirstRun = 20,
+    // The second is not accepted.
+    SecondRun = 21,
+    // Parts 1 to 5 differ.
+    FrontsDiffer = 22,
+    // The hidden lists are equal.
+    HiddenEqual = 23,
+}
+
+impl Refusal {
+    // Its number in document 01's table.
+    pub fn number(self) -> u32
+        ensures { result ≡ number self }
+    {
+        self as u32
+    }
+}
+
+impl From<Refusal> for u32 {
+    fn from(refusal: Refusal) -> u32
+        ensures { result ≡ number refusal }
+    {
+        refusal.number()
+    }
+}
+
+impl fmt::Display for Refusal {
+    fn fmt<W: fmt::Write>(&self, f: &mut fmt::Formatter<W>) -> fmt::Result {
+        write!(f, "{}", self.number())
+    }
+}

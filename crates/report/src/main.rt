@@ -4,18 +4,10 @@
 
 ghost use Rattle.std.specs.Prelude.{◌≤◌, ◌≡◌, length, take};
 ghost use Rattle.report.specs.Judged.{Judged};
-ghost use Rattle.std.specs.Io.{ReadsAtMost};
 
+use answer::code::verdict_code;
+use loading::load;
 use std::rt::Files;
-use std::{fs, io};
-
-// The file's bytes in front of a list, as many as fit: how many they are, or why the file cannot be opened.
-fn load<R: Files>(files: &R, path: &str, out: &mut [u8]) -> io::Result<usize>
-    ensures { ReadsAtMost result out.new }
-{
-    let mut file = fs::open(files, path)?;
-    Ok(loading::fill(&mut file, out))
-}
 
 // The judge's numbers for the runs before the first that cannot be opened; returns how many they are.
 fn judge_runs<R: Files>(files: &R, key: &[u8], run: &mut [u8], verdicts: &mut [u32]) -> usize
@@ -24,18 +16,15 @@ fn judge_runs<R: Files>(files: &R, key: &[u8], run: &mut [u8], verdicts: &mut [u
     ensures prefix_len { (result ≤ length verdicts.new) × (result ≡ length (take result verdicts.new)) }
     ensures judged { Judged key.now result verdicts.new }
 {
-    let mut count = 0;
-    while count < 99 {
+    for count in 0..99 {
         let name = sheet::name(count + 1);
         let path = str::from_utf8(&name).unwrap();
         let Ok(size) = load(files, path, run) else {
             return count;
         };
-        let number = badge::badge_judge(key, &run[..size]);
-        verdicts[count] = number;
-        count += 1;
+        verdicts[count] = verdict_code(badge::badge_judge(key, &run[..size]));
     }
-    count
+    99
 }
 
 fn main(rt: HostRuntime) {

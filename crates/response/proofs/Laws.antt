@@ -8,8 +8,8 @@ use native.Mathlib.Nat.{zero-add, mod-lt}
 use native.Mathlib.Omega.{arith}
 use borrow.Author.Tests.{eq-eqb, ne_eqb}
 use lib.Dec.{eqb}
-use lib.ListN.{length, get_or, take, drop, drop_of_length-le, length-append, length-drop, get_or-append}
-use lib.Seq.{take_at, drop_at, drop-drop, take_all}
+use lib.ListN.{length, get_or, take, drop, drop_of_length-le, length-append, get_or-append}
+use lib.Seq.{take_at, drop_at, drop-drop}
 use Rattle.lists.specs.Written.{two_parts}
 use Rattle.lists.specs.Tab.{tab, tab-at, tab_ext, tab-length, Filling}
 use Rattle.lists.specs.Index.{pick, part}
@@ -26,6 +26,7 @@ use Rattle.protocol.specs.Shares.{View, b, s, α, αsum, o, Γ, dealt}
 use Rattle.protocol.specs.Prover.{reply}
 use Rattle.execution.proofs.Held.{d_last, s_last}
 use Rattle.execution.specs.Shown.{Sized, Seeded, place_of}
+use Rattle.execution.specs.Lists.{alpha_at}
 use Rattle.execution.specs.Prepared.{Dealt, last_count}
 use Rattle.execution.proofs.Laws.{inside}
 use Rattle.views.specs.Seen.{ForH}
@@ -99,6 +100,11 @@ module _ {q n m N e : ℕ} {entries work : List ℕ} {K : Key} {v : View} (so : 
       → outs ≡ tab N (o K v L)
   held-outputs p L is = is ∙ tab_ext N _ _ (output_is (held_stated p) L)
 
+-- α(k, i) as it is for whoever may hide a party, where nobody is hidden
+pub alpha_shown : (q m N hid : ℕ) (given work : List ℕ) (k i : ℕ) → hid ≡ N → i < N → alpha_at q m hid given work k i ≡ alpha_share q m work i k
+unfolding alpha_at alpha_share
+alpha_shown q m N hid given work k i nobody h = rw (ne_eqb i hid (λ z. let no : ⊥ = omega arith in no))
+
 -- the outputs fill their list, and of the sums that they take only those of α count
 pub fills : (q n m N e : ℕ) (L entries work before : List ℕ) {w : ℕ} {sums after : List ℕ} → Filling w sums m (alpha_sum q m N work) → length before ≡ N
     → after ≡ tab N (output_at q n m N N e 0 L entries sums work) ++ drop N before
@@ -134,15 +140,6 @@ pub three_parts : (out a c e : List ℕ) (x y : ℕ) {a' c' e' : List ℕ} → l
     take (x + y) p ++ (e ++ drop (length p - (x + y)) (drop (x + y) p)) ≡ (a' ++ c') ++ e')
 three_parts out a c e x y la lc ea ec ee =
     join-part out a c e x y _ la lc _ (second_part out a c x y la) refl ∙ ap₂ (λ u w. u ++ w) (ap₂ (λ u w. u ++ w) ea ec) ee
-
--- the third part's length
-pub third_long : (out a c : List ℕ) (x y n : ℕ) → length a ≡ x → length c ≡ y → length out ≡ x + y + n
-    → (let p = take x (a ++ drop x out) ++ (c ++ drop (x + y - x) (drop x (a ++ drop x out))) in
-    length (take (length p - (x + y)) (drop (x + y) p)) ≡ n)
-third_long out a c x y n la lc long =
-    let both : length (a ++ c) ≡ x + y = length-append a c ∙ omega arith in
-    let rest : length (drop (x + y) out) ≡ n = length-drop (x + y) out ∙ omega arith in
-    rw (second_part out a c x y la, drop_at (a ++ c) (drop (x + y) out) (x + y) both, take_all _ (drop (x + y) out) (rest_long out (a ++ c) (x + y) both)) rest
 
 -- ---- party N's d and s
 empty : (l : List ℕ) → length l ≡ 0 → l ≡ []

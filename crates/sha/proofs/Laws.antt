@@ -1,7 +1,11 @@
 -- Laws of the state and of the padding, over plain lists and numbers. Assumes nothing.
-use Rattle.std.proofs.Common.{◌≡◌, ℕ, zero, suc, ◌+◌, ◌-◌, ◌*◌, ◌/◌, ◌%◌, ◌^◌, ◌<◌, ◌≤◌, List, [], ◌∷◌, ◌++◌, length, get_or, take, drop, set, replicate, sym, refl, ap, ◌∙◌, append_assoc, append-nil, add-zero, add-one, arith, length-append, length-drop, length-set, take-append-drop, drop_of_length-le, length-take-le, take_all, take-suc, take-suc-set}
+use Rattle.std.proofs.Common.{◌≡◌, ℕ, zero, suc, ◌+◌, ◌-◌, ◌*◌, ◌/◌, ◌%◌, ◌^◌, ◌<◌, ◌≤◌, List, ◌∷◌, ◌++◌, length, get_or, take, drop, replicate, sym, refl, ap, ◌∙◌, add-one, arith, length-append, length-drop, take-append-drop, drop_of_length-le, length-take-le, take_all}
 use native.Mathlib.Nat.{mod-add-mod}
-use lib.Seq.{take-append-le, drop-append-le, drop-append-add}
+use borrow.Rule.Slice.PartMut.{put_mid}
+use lib.Seq.{take-append-le, drop-append-le, drop_at}
+use Rattle.std.specs.Int.{w32, w64, to_be_bytes}
+use Rattle.std.proofs.lemmas.Nat.{shr-shr}
+use Rattle.std.proofs.lemmas.Slice.{take-put_mid}
 use Rattle.sha_core.specs.Fips180.{be, compress, absorb, bytes, pad, sha256}
 use Rattle.sha.specs.declared.Sha.{Sha}
 use Rattle.sha.specs.State.{Stands, Fed}
@@ -20,19 +24,9 @@ pub absorb-more : (n : ℕ) (p v r : List ℕ) → v ≡ absorb n p → r ≡ co
 unfolding absorb
 absorb-more n p v r e f = rw add-one (cc)
 
--- `put` writes one byte more
-pub put-more : (b₀ b d : List ℕ) (k i : ℕ) → k + i < length b → i < length d → take (k + i) b ≡ take k b₀ ++ take i d
-    → take (k + (i + 1)) (set b (k + i) (get_or d i 0)) ≡ take k b₀ ++ take (i + 1) d
-put-more b₀ b d k i h l e =
-    let f : k + (i + 1) ≡ suc (k + i) = omega arith in
-    rw f (rw (take-suc-set b (k + i) (get_or d i 0) h, add-one, take-suc d i 0 l, e) (append_assoc (take k b₀) (take i d) _))
-
-pub put-none : (b d : List ℕ) (k : ℕ) → take (k + 0) b ≡ take k b ++ take 0 d
-put-none b d k = rw add-zero (sym (append-nil (take k b)))
-
-pub put_all : (b₀ b d : List ℕ) (k i : ℕ) → i ≡ length d → take (k + i) b ≡ take k b₀ ++ take i d
-    → take (k + length d) b ≡ take k b₀ ++ d
-put_all b₀ b d k i e f = rw (take_all (length d) d (omega arith)) at (rw e at f)
+-- d is put behind the first a of xs
+pub put_behind : (a k : ℕ) (xs ys d : List ℕ) → a ≤ length xs → ys ≡ d → take (a + length d) (put_mid a k xs ys) ≡ take a xs ++ d
+put_behind a k xs ys d h e = rw e (take-put_mid a k xs d (a + length d) refl h)
 
 -- the count of a fed state
 pub counted-more : (c t : ℕ) (m d : List ℕ) → c ≡ length m % 2 ^ 64 → t ≡ (c + length d) % 2 ^ 64 → t ≡ length (m ++ d) % 2 ^ 64
@@ -56,9 +50,6 @@ full_mod l n d e h = omega arith
 
 both-whole : (l n d : ℕ) → l ≡ n + d → n % 64 ≡ 0 → d % 64 ≡ 0 → l % 64 ≡ 0
 both-whole l n d e h k = omega arith
-
-pub count-whole : (c d t : ℕ) → c % 64 + d ≡ 64 → t ≡ (c + d) % 2 ^ 64 → t % 64 ≡ 0
-count-whole c d t h e = omega arith
 
 whole_le : (n : ℕ) → n / 64 * 64 ≤ n
 whole_le n = omega arith
@@ -99,24 +90,16 @@ complete_stands s m d b v t h x e g f w =
       kept = rw (z, drop_of_length-le (m ++ d) {i = length (m ++ d) / 64 * 64} (whole_all _ z));
     }
 
--- a block of d, after whole blocks m
-pub blocks_more : (m d v r : List ℕ) (i : ℕ) → length m % 64 ≡ 0 → v ≡ absorb (length m / 64 + i) (m ++ d)
-    → r ≡ compress v (take (64 * i + 64 - 64 * i) (drop (64 * i) d)) → r ≡ absorb (length m / 64 + (i + 1)) (m ++ d)
-blocks_more m d v r i h e f =
-    let k : length m / 64 + (i + 1) ≡ length m / 64 + i + 1 = omega arith in
-    let n : (length m / 64 + i) * 64 ≡ length m + 64 * i = omega arith in
-    let z : 64 * i + 64 - 64 * i ≡ 64 = omega arith in
-    rw k (absorb-more (length m / 64 + i) (m ++ d) v r e (rw (n, drop-append-add m d (64 * i)) (rw z at f)))
-
-pub blocks-none : (m d v : List ℕ) → length m % 64 ≡ 0 → v ≡ absorb (length m / 64) m → v ≡ absorb (length m / 64 + 0) (m ++ d)
-blocks-none m d v h e = rw add-zero (e ∙ sym (absorb-front (length m / 64) m d (omega arith)))
-
-pub blocks_all : (m d v : List ℕ) (i : ℕ) → length m % 64 ≡ 0 → length d % 64 ≡ 0 → i ≡ length d / 64
-    → v ≡ absorb (length m / 64 + i) (m ++ d) → v ≡ absorb (length (m ++ d) / 64) (m ++ d)
-blocks_all m d v i h k e f =
-    let l : length (m ++ d) ≡ length m + length d = length-append m d in
-    let q : length m / 64 + i ≡ length (m ++ d) / 64 = omega arith in
-    rw q at f
+-- a block x more, after whole blocks p
+pub block_more : (p x v r : List ℕ) → length p % 64 ≡ 0 → length x ≡ 64 → v ≡ absorb (length p / 64) p → r ≡ compress v x
+    → (length (p ++ x) % 64 ≡ 0) × (r ≡ absorb (length (p ++ x) / 64) (p ++ x))
+block_more p x v r h l e f =
+    let n : length p / 64 * 64 ≡ length p = omega arith in
+    let b : take 64 (drop (length p / 64 * 64) (p ++ x)) ≡ x = rw n (rw (drop_at p x (length p) refl) (take_all 64 x (omega arith))) in
+    let q : length (p ++ x) / 64 ≡ length p / 64 + 1 = omega (arith, length-append p x) in (
+      omega (arith, length-append p x),
+      rw q (absorb-more (length p / 64) (p ++ x) v r (e ∙ sym (absorb-front (length p / 64) p x (omega arith))) (rw b f)),
+    )
 
 -- whole blocks after whole blocks
 pub blocks_stand : (s : Sha) (m d v : List ℕ) (n t : ℕ) → n ≡ length d → s.count % 64 ≡ 0 → length d % 64 ≡ 0
@@ -131,31 +114,32 @@ blocks_stand s m d v n t o h k e f w =
       kept = rw (z, drop_of_length-le (m ++ d) {i = length (m ++ d) / 64 * 64} (whole_all _ z));
     }
 
-next-set : (l : List ℕ) (j i a : ℕ) → j ≡ i + 1 → i < length l → take j (set l i a) ≡ take i l ++ (a ∷ [])
-next-set l j i a e h = rw (e, add-one) (take-suc-set l i a h)
+-- std's bytes of a number are the standard's
+pub be_four : (x : ℕ) → to_be_bytes w32 x ≡ be 4 x
+unfolding be
+be_four x =
+    let a : x / 2 ^ 8 / 2 ^ 8 ≡ x / 2 ^ 16 = shr-shr x 8 8 in
+    let b : x / 2 ^ 16 / 2 ^ 8 ≡ x / 2 ^ 24 = shr-shr x 16 8 in
+    rw (a, b) refl
 
-pub four_sets : (l : List ℕ) (k a b c d : ℕ) → k + 3 < length l
-    → take (k + 4) (set (set (set (set l k a) (k + 1) b) (k + 2) c) (k + 3) d) ≡ take k l ++ (a ∷ b ∷ c ∷ d ∷ [])
-four_sets l k a b c d h =
-    let x : length (set l k a) ≡ length l = length-set l k a in
-    let y : length (set (set l k a) (k + 1) b) ≡ length l = length-set (set l k a) (k + 1) b ∙ x in
-    let z : length (set (set (set l k a) (k + 1) b) (k + 2) c) ≡ length l =
-    length-set (set (set l k a) (k + 1) b) (k + 2) c ∙ y in
-    rw (
-      next-set (set (set (set l k a) (k + 1) b) (k + 2) c) (k + 4) (k + 3) d (omega arith) (omega arith),
-      next-set (set (set l k a) (k + 1) b) (k + 3) (k + 2) c (omega arith) (omega arith),
-      next-set (set l k a) (k + 2) (k + 1) b (omega arith) (omega arith),
-      next-set l (k + 1) k a refl (omega arith),
-    ) (simp append_assoc)
+pub be_eight : (x : ℕ) → to_be_bytes w64 x ≡ be 8 x
+unfolding be
+be_eight x =
+    let a : x / 2 ^ 8 / 2 ^ 8 ≡ x / 2 ^ 16 = shr-shr x 8 8 in
+    let b : x / 2 ^ 16 / 2 ^ 8 ≡ x / 2 ^ 24 = shr-shr x 16 8 in
+    let c : x / 2 ^ 24 / 2 ^ 8 ≡ x / 2 ^ 32 = shr-shr x 24 8 in
+    let d : x / 2 ^ 32 / 2 ^ 8 ≡ x / 2 ^ 40 = shr-shr x 32 8 in
+    let e : x / 2 ^ 40 / 2 ^ 8 ≡ x / 2 ^ 48 = shr-shr x 40 8 in
+    let f : x / 2 ^ 48 / 2 ^ 8 ≡ x / 2 ^ 56 = shr-shr x 48 8 in
+    rw (a, b, c, d, e, f) refl
 
 -- a word more of the digest
-pub bytes-more : (h r : List ℕ) (t a b c d : ℕ) → 4 * t + 3 < length r → take (4 * t) r ≡ bytes t h
-    → a ≡ get_or h t 0 / 256 / 256 / 256 % 256 → b ≡ get_or h t 0 / 256 / 256 % 256 → c ≡ get_or h t 0 / 256 % 256 → d ≡ get_or h t 0 % 256
-    → take (4 * (t + 1)) (set (set (set (set r (4 * t) a) (4 * t + 1) b) (4 * t + 2) c) (4 * t + 3) d) ≡ bytes (t + 1) h
-unfolding bytes be
-bytes-more h r t a b c d l e p q x y =
-    let k : 4 * (t + 1) ≡ 4 * t + 4 = omega arith in
-    rw (k, add-one t) (four_sets r (4 * t) a b c d l ∙ rw (e, p, q, x, y))
+pub bytes-more : (h r y : List ℕ) (t k : ℕ) → 4 * t + 4 ≤ length r → take (4 * t) r ≡ bytes t h → y ≡ to_be_bytes w32 (get_or h t 0)
+    → take (4 * (t + 1)) (put_mid (4 * t) k r y) ≡ bytes (t + 1) h
+unfolding bytes
+bytes-more h r y t k l e f =
+    let w : length y ≡ 4 = rw f refl in
+    rw (take-put_mid (4 * t) k r y (4 * (t + 1)) (omega arith) (omega arith), add-one, e, f, be_four) refl
 
 -- a list in two parts
 pub fed_parts : (s r : Sha) (d : List ℕ) (n : ℕ) → n ≤ length d → Fed s (take n d ++ take (length d - n) (drop n d)) r → Fed s d r

@@ -1,9 +1,9 @@
 -- Laws of the definitions of FIPS 180-4, in the shape in which the loops meet them. Assumes nothing.
-use Rattle.std.proofs.Common.{◌≡◌, ℕ, zero, suc, ◌+◌, ◌-◌, ◌%◌, ◌^◌, ◌<◌, ◌≤◌, List, [], ◌∷◌, length, get_or, take, set, sym, refl, ap, ◌∙◌, add-zero, add-suc, add-one, arith, length-append, take_all, get_or-take, take-suc-set, le-ltb, lt-ltb}
+use Rattle.std.proofs.Common.{◌≡◌, ℕ, zero, suc, ◌+◌, ◌-◌, ◌%◌, ◌^◌, ◌<◌, ◌≤◌, List, length, get_or, take, set, sym, refl, ap, ◌∙◌, add-zero, add-suc, add-one, arith, length-append, take_all, get_or-take, take-suc-set, le-ltb, lt-ltb}
 use native.Mathlib.Nat.{mod-add-mod}
 use native.Mathlib.Numerals.{add-two, add-three, add-four, add_five, add_six, add_seven, add_eight}
 use lib.Seq.{take-append-le}
-use Rattle.sha_core.specs.Fips180.{K, M, W, Ch, Maj, Σ0, Σ1, σ0, σ1, schedule, T1, T2, round, rounds}
+use Rattle.sha_core.specs.Fips180.{K, M, W, σ0, σ1, schedule, round, rounds}
 
 pub schedule-length : (n : ℕ) (b : List ℕ) → length (schedule n b) ≡ n
 unfolding schedule
@@ -47,31 +47,10 @@ pub eight_rounds : (t : ℕ) (h x : List ℕ) → rounds (t + 8) h x ≡
 unfolding rounds
 eight_rounds t h x = rw (add_eight, add-one, add-two, add-three, add-four, add_five, add_six, add_seven)
 
--- T_1 is summed two at a time
-pub t1_sums : (v : List ℕ) (k w s c x y z t : ℕ) → s ≡ Σ1 (get_or v 4 0) → c ≡ Ch (get_or v 4 0) (get_or v 5 0) (get_or v 6 0)
-    → x ≡ (get_or v 7 0 + s) % 2 ^ 32 → y ≡ (x + c) % 2 ^ 32 → z ≡ (y + k) % 2 ^ 32 → t ≡ (z + w) % 2 ^ 32 → t ≡ T1 v k w
-unfolding T1
-t1_sums v k w s c x y z t e f p q r u = rw (u, r, q, p) (rw (← e, ← f) (chain (get_or v 7 0) s c k w))
-  where
-    chain : (a b c d e : ℕ) → ((((a + b) % 2 ^ 32 + c) % 2 ^ 32 + d) % 2 ^ 32 + e) % 2 ^ 32 ≡ (a + b + c + d + e) % 2 ^ 32
-    chain a b c d e = simp mod-add-mod
-
-pub round_is : (v : List ℕ) (k w t1 s m t2 a e : ℕ) → t1 ≡ T1 v k w → s ≡ Σ0 (get_or v 0 0)
-    → m ≡ Maj (get_or v 0 0) (get_or v 1 0) (get_or v 2 0) → t2 ≡ (s + m) % 2 ^ 32 → a ≡ (t1 + t2) % 2 ^ 32
-    → e ≡ (get_or v 3 0 + t1) % 2 ^ 32
-    → a ∷ get_or v 0 0 ∷ get_or v 1 0 ∷ get_or v 2 0 ∷ e ∷ get_or v 4 0 ∷ get_or v 5 0 ∷ get_or v 6 0 ∷ [] ≡ round v k w
-unfolding round T2
-round_is v k w t1 s m t2 a e p q r u x y =
-    let z : t2 ≡ T2 v = rw (u, q, r) (t2_is v) in rw (x, y, z, p)
-  where
-    t2_is : (v : List ℕ) → (Σ0 (get_or v 0 0) + Maj (get_or v 0 0) (get_or v 1 0) (get_or v 2 0)) % 2 ^ 32 ≡ T2 v
-    t2_is v = refl
-
 -- W_t is summed two at a time
-pub w_sums : (b w : List ℕ) (t s z x y r : ℕ) → 16 ≤ t → take t w ≡ schedule t b → s ≡ σ1 (get_or w (t - 2) 0)
-    → x ≡ (s + get_or w (t - 7) 0) % 2 ^ 32 → z ≡ σ0 (get_or w (t - 15) 0) → y ≡ (x + z) % 2 ^ 32
-    → r ≡ (y + get_or w (t - 16) 0) % 2 ^ 32 → r ≡ W b (schedule t b) t
-w_sums b w t s z x y r h e f p g q u =
+pub w_sum : (b w : List ℕ) (t s z : ℕ) → 16 ≤ t → take t w ≡ schedule t b → s ≡ σ1 (get_or w (t - 2) 0) → z ≡ σ0 (get_or w (t - 15) 0)
+    → (((s + get_or w (t - 7) 0) % 2 ^ 32 + z) % 2 ^ 32 + get_or w (t - 16) 0) % 2 ^ 32 ≡ W b (schedule t b) t
+w_sum b w t s z h e f g =
     rw (computed b (schedule t b) t h) (rw (← e) (
     rw (
       get_or-take t w (t - 2) 0 (omega arith),
@@ -79,18 +58,18 @@ w_sums b w t s z x y r h e f p g q u =
       get_or-take t w (t - 15) 0 (omega arith),
       get_or-take t w (t - 16) 0 (omega arith),
     ) (
-    rw (← f, ← g) (rw (u, q, p) (chain s (get_or w (t - 7) 0) z (get_or w (t - 16) 0))))))
+    rw (← f, ← g) (chain s (get_or w (t - 7) 0) z (get_or w (t - 16) 0)))))
   where
     chain : (a b c d : ℕ) → (((a + b) % 2 ^ 32 + c) % 2 ^ 32 + d) % 2 ^ 32 ≡ (a + b + c + d) % 2 ^ 32
     chain a b c d = simp mod-add-mod
 
-pub eight_is : (k w h x v v1 v2 v3 v4 v5 v6 v7 v8 : List ℕ) (t : ℕ) → k ≡ K
-    → v1 ≡ round v (get_or k t 0) (get_or w t 0) → v2 ≡ round v1 (get_or k (t + 1) 0) (get_or w (t + 1) 0)
-    → v3 ≡ round v2 (get_or k (t + 2) 0) (get_or w (t + 2) 0) → v4 ≡ round v3 (get_or k (t + 3) 0) (get_or w (t + 3) 0)
-    → v5 ≡ round v4 (get_or k (t + 4) 0) (get_or w (t + 4) 0) → v6 ≡ round v5 (get_or k (t + 5) 0) (get_or w (t + 5) 0)
-    → v7 ≡ round v6 (get_or k (t + 6) 0) (get_or w (t + 6) 0) → v8 ≡ round v7 (get_or k (t + 7) 0) (get_or w (t + 7) 0)
+pub eight_is : (w h x v v1 v2 v3 v4 v5 v6 v7 v8 : List ℕ) (t : ℕ)
+    → v1 ≡ round v (get_or K t 0) (get_or w t 0) → v2 ≡ round v1 (get_or K (t + 1) 0) (get_or w (t + 1) 0)
+    → v3 ≡ round v2 (get_or K (t + 2) 0) (get_or w (t + 2) 0) → v4 ≡ round v3 (get_or K (t + 3) 0) (get_or w (t + 3) 0)
+    → v5 ≡ round v4 (get_or K (t + 4) 0) (get_or w (t + 4) 0) → v6 ≡ round v5 (get_or K (t + 5) 0) (get_or w (t + 5) 0)
+    → v7 ≡ round v6 (get_or K (t + 6) 0) (get_or w (t + 6) 0) → v8 ≡ round v7 (get_or K (t + 7) 0) (get_or w (t + 7) 0)
     → v ≡ rounds t h x → take (t + 8) w ≡ take (t + 8) x → v8 ≡ rounds (t + 8) h x
-eight_is k w h x v v1 v2 v3 v4 v5 v6 v7 v8 t z e1 e2 e3 e4 e5 e6 e7 e8 e f =
+eight_is w h x v v1 v2 v3 v4 v5 v6 v7 v8 t e1 e2 e3 e4 e5 e6 e7 e8 e f =
     rw (eight_rounds t h x) (cc (
       same_word w x (t + 8) t (omega arith) f,
       same 1 (omega arith),

@@ -1,14 +1,12 @@
-// The compression function of SHA-256 (FIPS 180-4, 6.2.2). Sums modulo 2^32 are `wrapping_add_u32`.
+// The compression function of SHA-256 (FIPS 180-4, 6.2.2). Sums modulo 2^32 are `wrapping_add`.
 #![tactic(auto)]
 
-ghost use Rattle.std.specs.Prelude.{◌≡◌, ℕ, ◌+◌, ◌*◌, ◌%◌, ◌^◌, ◌<◌, ◌≤◌, List, length, take, slice_index};
+ghost use Rattle.std.specs.Prelude.{◌≡◌, ℕ, ◌+◌, ◌*◌, ◌%◌, ◌<◌, ◌≤◌, List, length, take, slice_index};
 ghost use Rattle.sha_core.specs.Examples.{abc, abc_digest, letters, letters_digest};
 ghost use Rattle.sha_core.specs.Filled.{Filled};
-ghost use Rattle.sha_core.specs.Fips180.{K, Ch, Maj, Σ0, Σ1, σ0, σ1, W, schedule, round, rounds, added, compress, sha256};
+ghost use Rattle.sha_core.specs.Fips180.{K, M, Ch, Maj, Σ0, Σ1, σ0, σ1, W, schedule, round, rounds, added, compress, sha256};
 
-use std::num::wrapping_add_u32;
-
-const CONSTANTS: [u32; 64] = [
+static CONSTANTS: [u32; 64] = [
     0x428a2f98, 0x71374491, 0xb5c0fbcf, 0xe9b5dba5, 0x3956c25b, 0x59f111f1, 0x923f82a4, 0xab1c5ed5,
     0xd807aa98, 0x12835b01, 0x243185be, 0x550c7dc3, 0x72be5d74, 0x80deb1fe, 0x9bdc06a7, 0xc19bf174,
     0xe49b69c1, 0xefbe4786, 0x0fc19dc6, 0x240ca1cc, 0x2de92c6f, 0x4a7484aa, 0x5cb0a9dc, 0x76f988da,
@@ -18,6 +16,15 @@ const CONSTANTS: [u32; 64] = [
     0x19a4c116, 0x1e376c08, 0x2748774c, 0x34b0bcb5, 0x391c0cb3, 0x4ed8aa4a, 0x5b9cca4f, 0x682e6ff3,
     0x748f82ee, 0x78a5636f, 0x84c87814, 0x8cc70208, 0x90befffa, 0xa4506ceb, 0xbef9a3f7, 0xc67178f2,
 ];
+
+// The constant K_t.
+#[tactic(auto, unfolding(crate::specs::Fips180::K))]
+fn constant(t: usize) -> u32
+    requires { t < 64 }
+    ensures { result ≡ slice_index K t }
+{
+    CONSTANTS[t]
+}
 
 fn ch(x: u32, y: u32, z: u32) -> u32
     ensures { result ≡ Ch x y z }
@@ -34,69 +41,72 @@ fn maj(x: u32, y: u32, z: u32) -> u32
 fn upper_zero(x: u32) -> u32
     ensures { result ≡ Σ0 x }
 {
-    ((x >> 2) | (x << 30)) ^ ((x >> 13) | (x << 19)) ^ ((x >> 22) | (x << 10))
+    x.rotate_right(2) ^ x.rotate_right(13) ^ x.rotate_right(22)
 }
 
 fn upper_one(x: u32) -> u32
     ensures { result ≡ Σ1 x }
 {
-    ((x >> 6) | (x << 26)) ^ ((x >> 11) | (x << 21)) ^ ((x >> 25) | (x << 7))
+    x.rotate_right(6) ^ x.rotate_right(11) ^ x.rotate_right(25)
 }
 
 fn lower_zero(x: u32) -> u32
     ensures { result ≡ σ0 x }
 {
-    ((x >> 7) | (x << 25)) ^ ((x >> 18) | (x << 14)) ^ (x >> 3)
+    x.rotate_right(7) ^ x.rotate_right(18) ^ (x >> 3)
 }
 
 fn lower_one(x: u32) -> u32
     ensures { result ≡ σ1 x }
 {
-    ((x >> 17) | (x << 15)) ^ ((x >> 19) | (x << 13)) ^ (x >> 10)
+    x.rotate_right(17) ^ x.rotate_right(19) ^ (x >> 10)
 }
 
 // One turn of 6.2.2, 3.
+#[tactic(auto, unfolding(crate::specs::Fips180::round, crate::specs::Fips180::T1, crate::specs::Fips180::T2))]
 fn step(v: [u32; 8], k: u32, w: u32) -> [u32; 8]
     ensures { result ≡ round v k w }
 {
-    let s1 = wrapping_add_u32(v[7], upper_one(v[4]));
-    let s2 = wrapping_add_u32(s1, ch(v[4], v[5], v[6]));
-    let s3 = wrapping_add_u32(s2, k);
-    let t1 = wrapping_add_u32(s3, w);
-    let t2 = wrapping_add_u32(upper_zero(v[0]), maj(v[0], v[1], v[2]));
-    let a = wrapping_add_u32(t1, t2);
-    let e = wrapping_add_u32(v[3], t1);
-    [a, v[0], v[1], v[2], e, v[4], v[5], v[6]]
+    let [a, b, c, d, e, f, g, h] = v;
+    let t1 = h
+        .wrapping_add(upper_one(e))
+        .wrapping_add(ch(e, f, g))
+        .wrapping_add(k)
+        .wrapping_add(w);
+    let t2 = upper_zero(a).wrapping_add(maj(a, b, c));
+    [t1.wrapping_add(t2), a, b, c, d.wrapping_add(t1), e, f, g]
 }
 
 // The turn t.
-fn step_at(k: &[u32; 64], w: &[u32; 64], t: usize, v: [u32; 8]) -> [u32; 8]
+fn step_at(w: &[u32; 64], t: usize, v: [u32; 8]) -> [u32; 8]
     requires { t < 64 }
-    ensures { result ≡ round v (slice_index k.now t) (slice_index w.now t) }
+    ensures { result ≡ round v (slice_index K t) (slice_index w.now t) }
 {
-    step(v, k[t], w[t])
+    step(v, constant(t), w[t])
 }
 
 // The turns t .. t + 7.
-fn eight(k: &[u32; 64], w: &[u32; 64], t: usize, v: [u32; 8]) -> [u32; 8]
-    requires { (k.now ≡ K) × (t + 8 ≤ 64) }
+fn eight(w: &[u32; 64], t: usize, v: [u32; 8]) -> [u32; 8]
+    requires { t + 8 ≤ 64 }
     ensures { (h x : List ℕ) → v ≡ rounds t h x → take (t + 8) w.now ≡ take (t + 8) x → result ≡ rounds (t + 8) h x }
 {
-    let v1 = step_at(k, w, t, v);
-    let v2 = step_at(k, w, t + 1, v1);
-    let v3 = step_at(k, w, t + 2, v2);
-    let v4 = step_at(k, w, t + 3, v3);
-    let v5 = step_at(k, w, t + 4, v4);
-    let v6 = step_at(k, w, t + 5, v5);
-    let v7 = step_at(k, w, t + 6, v6);
-    step_at(k, w, t + 7, v7)
+    let v1 = step_at(w, t, v);
+    let v2 = step_at(w, t + 1, v1);
+    let v3 = step_at(w, t + 2, v2);
+    let v4 = step_at(w, t + 3, v3);
+    let v5 = step_at(w, t + 4, v4);
+    let v6 = step_at(w, t + 5, v5);
+    let v7 = step_at(w, t + 6, v6);
+    step_at(w, t + 7, v7)
 }
 
-// A word from its bytes, the most significant first.
-fn word(a: u8, b: u8, c: u8, d: u8) -> u32
-    ensures { result ≡ a * 2 ^ 24 + b * 2 ^ 16 + c * 2 ^ 8 + d }
+// The t-th word of a block.
+#[tactic(auto, unfolding(crate::specs::Fips180::M))]
+fn word(b: &[u8], t: usize) -> u32
+    requires { 4 * t + 4 ≤ length b.now }
+    ensures { result ≡ M b.now t }
 {
-    (a as u32) * 0x100_0000 + (b as u32) * 0x1_0000 + (c as u32) * 0x100 + (d as u32)
+    u32::from_be_bytes([b[4 * t], b[4 * t + 1], b[4 * t + 2], b[4 * t + 3]])
 }
 
 // The word W_t of 6.2.2, 1, for t from 16 on.
@@ -104,9 +114,10 @@ fn next(w: &[u32; 64], t: usize) -> u32
     requires { (16 ≤ t) × (t < 64) }
     ensures { (b : List ℕ) → take t w.now ≡ schedule t b → result ≡ W b (schedule t b) t }
 {
-    let s1 = wrapping_add_u32(lower_one(w[t - 2]), w[t - 7]);
-    let s2 = wrapping_add_u32(s1, lower_zero(w[t - 15]));
-    wrapping_add_u32(s2, w[t - 16])
+    lower_one(w[t - 2])
+        .wrapping_add(w[t - 7])
+        .wrapping_add(lower_zero(w[t - 15]))
+        .wrapping_add(w[t - 16])
 }
 
 // The words W_t .. W_(t + 7) that are those of the block.
@@ -114,9 +125,8 @@ fn load_eight(w: &mut [u32; 64], b: &[u8], t: usize)
     requires { (length w.old ≡ 64) × (length b.now ≡ 64) × (t + 8 ≤ 16) }
     ensures { Filled b.now t w.old w.new }
 {
-    let e = t + 8;
-    for j in t..e {
-        w[j] = word(b[4 * j], b[4 * j + 1], b[4 * j + 2], b[4 * j + 3]);
+    for j in t..t + 8 {
+        w[j] = word(b, j);
     }
 }
 
@@ -125,10 +135,8 @@ fn extend_eight(w: &mut [u32; 64], t: usize)
     requires { (length w.old ≡ 64) × (16 ≤ t) × (t + 8 ≤ 64) }
     ensures { (b : List ℕ) → Filled b t w.old w.new }
 {
-    let e = t + 8;
-    for j in t..e {
-        let x = next(w, j);
-        w[j] = x;
+    for j in t..t + 8 {
+        w[j] = next(w, j);
     }
 }
 
@@ -145,8 +153,9 @@ fn fill_eight(w: &mut [u32; 64], b: &[u8], t: usize)
 }
 
 // The 64 turns of 6.2.2, 3, each eight after their words of the schedule.
-fn run(k: &[u32; 64], b: &[u8], h: [u32; 8]) -> [u32; 8]
-    requires { (k.now ≡ K) × (length b.now ≡ 64) }
+#[tactic(auto, unfolding(crate::specs::Fips180::schedule, crate::specs::Fips180::rounds))]
+fn run(b: &[u8], h: [u32; 8]) -> [u32; 8]
+    requires { length b.now ≡ 64 }
     ensures { result ≡ rounds 64 h (schedule 64 b.now) }
 {
     let mut w = [0u32; 64];
@@ -154,45 +163,41 @@ fn run(k: &[u32; 64], b: &[u8], h: [u32; 8]) -> [u32; 8]
     for i in 0..8 {
         let t = 8 * i;
         fill_eight(&mut w, b, t);
-        let n = eight(k, &w, t, v);
-        v = n;
+        // A call's result is not laid in `v` itself: the borrow checker has no rule for an array there.
+        let next = eight(&w, t, v);
+        v = next;
     }
     v
 }
 
 // 6.2.2, 4.
+#[tactic(auto, unfolding(crate::specs::Fips180::added))]
 fn add_all(v: [u32; 8], h: [u32; 8]) -> [u32; 8]
     ensures { result ≡ added v h }
 {
-    let a = wrapping_add_u32(v[0], h[0]);
-    let b = wrapping_add_u32(v[1], h[1]);
-    let c = wrapping_add_u32(v[2], h[2]);
-    let d = wrapping_add_u32(v[3], h[3]);
-    let e = wrapping_add_u32(v[4], h[4]);
-    let f = wrapping_add_u32(v[5], h[5]);
-    let g = wrapping_add_u32(v[6], h[6]);
-    let i = wrapping_add_u32(v[7], h[7]);
-    [a, b, c, d, e, f, g, i]
+    [
+        v[0].wrapping_add(h[0]),
+        v[1].wrapping_add(h[1]),
+        v[2].wrapping_add(h[2]),
+        v[3].wrapping_add(h[3]),
+        v[4].wrapping_add(h[4]),
+        v[5].wrapping_add(h[5]),
+        v[6].wrapping_add(h[6]),
+        v[7].wrapping_add(h[7]),
+    ]
 }
 
-// The 64 constants, for a caller that hashes several blocks.
-pub fn table() -> [u32; 64]
-    ensures { result ≡ K }
-{
-    CONSTANTS
-}
-
-// The hash value after one block more, with the constants lent.
-pub fn compress_block(k: &[u32; 64], h: [u32; 8], b: &[u8]) -> [u32; 8]
-    requires k_value { k.now ≡ K }
+// The hash value after one block more.
+#[tactic(auto, unfolding(crate::specs::Fips180::compress))]
+pub fn compress_block(h: [u32; 8], b: &[u8]) -> [u32; 8]
     requires b_len { length b.now ≡ 64 }
     ensures { result ≡ compress h b.now }
 {
-    let v = run(k, b, h);
-    add_all(v, h)
+    add_all(run(b, h), h)
 }
 
 // NIST's examples of one block and of two, of the definition itself.
+#[tactic(auto, using(crate::specs::Examples::digest_abc, crate::specs::Examples::digest_letters))]
 pub fn nist_examples()
     ensures { (sha256 abc ≡ abc_digest) × (sha256 letters ≡ letters_digest) }
 {}

@@ -1,8 +1,9 @@
 -- Laws of what is written in a list, text after text, and of the sheet's lengths.
 -- Assumes nothing.
 use Prim.Native.Nat.{ℕ, zero, suc, ◌+◌, ◌-◌, ◌≤◌}
-use mathlib.Core.Path.{◌≡◌, sym, ◌∙◌, ap}
-use mathlib.Core.Bool.{Bool, true, false}
+use mathlib.Core.Path.{◌≡◌, refl, sym, ◌∙◌, ap}
+use mathlib.Core.Bool.{Bool, true, false, not, cond}
+use Rattle.std.specs.List.{count_by, fold}
 use mathlib.Core.List.{List, [], ◌∷◌, ◌++◌, append_assoc}
 use native.Mathlib.Numerals.{add-one}
 use native.Mathlib.Omega.{arith}
@@ -11,11 +12,11 @@ use lib.ListN.{length, get_or, take, drop, length-append}
 use borrow.Author.Tests.{ne_eqb, lt-ltb}
 use lib.Seq.{take_at, drop_at, drop-drop, length-take-le}
 use Rattle.lists.specs.Index.{pick, cat, count}
-use Rattle.lists.specs.TestLaws.{count_suc}
+use Rattle.lists.specs.TestLaws.{count_ext, count-not}
 use Rattle.lists.specs.Written.{Puts, Built, built_more, tail_written}
 use Rattle.line.specs.Line.{decimal, line_of}
 use Rattle.line.proofs.Laws.{long, counted}
-use Rattle.sheet.specs.Sheet.{name_of, run_line, accepted_word, refused_word, total_word, totals, sheet_of}
+use Rattle.sheet.specs.Sheet.{name_of, run_line, accepted_word, refused_word, total_word, totals, accepted_in, refused_in, sheet_of}
 
 -- a text that is written in front of what follows a place
 pub puts_tail : (ys r out : List ℕ) (from n : ℕ) → n ≡ length ys → r ≡ ys ++ drop n (take (length out - from) (drop from out))
@@ -79,6 +80,39 @@ pub totals-written : (a r t : List ℕ) {at p₁ p₂ p₃ p₄ : ℕ} {l o₁ o
 unfolding totals
 totals-written a r t h x₁ x₂ x₃ x₄ = puts_join h (puts_join h (puts_join h x₁ x₂) x₃) x₄
 
+-- ---- counts
+count_front : (n : ℕ) (p : ℕ → Bool) → count (suc n) p ≡ pick (p 0) 1 0 + count n (λ j. p (suc j))
+unfolding count
+count_front zero p = omega arith
+count_front (suc n) p = let e = count_front n p in omega arith
+
+one_if : (b : Bool) → ◌≡◌ {A = ℕ} (cond b 1 0) (pick b 1 0)
+one_if true = refl
+one_if false = refl
+
+counted_from : (p : ℕ → Bool) (a : ℕ) (ns : List ℕ) → fold (λ a n. a + cond (p n) 1 0) a ns ≡ a + count (length ns) (λ j. p (get_or ns j 0))
+unfolding count
+counted_from p a [] = omega arith
+counted_from p a (n ∷ ns) =
+    let e = counted_from p (a + cond (p n) 1 0) ns in
+    let f = count_front (length ns) (λ j. p (get_or (n ∷ ns) j 0)) in
+    let g = one_if (p n) in
+    omega arith
+
+-- std's count of the numbers that pass is the definition's
+pub counted_by : (p : ℕ → Bool) (ns : List ℕ) → count_by p ns ≡ count (length ns) (λ j. p (get_or ns j 0))
+counted_by p ns = let e = counted_from p 0 ns in omega arith
+
+refused-not : (n : ℕ) → ltb 0 n ≡ not (eqb n 0)
+refused-not zero = refl
+refused-not (suc n) = rw (ne_eqb (suc n) 0 (λ e. omega arith), lt-ltb 0 (suc n) (omega arith)) refl
+
+-- a run is accepted or refused
+pub all_counted : (ns : List ℕ) → count (length ns) (λ j. eqb (get_or ns j 0) 0) + count (length ns) (λ j. ltb 0 (get_or ns j 0)) ≡ length ns
+all_counted ns =
+    ap (λ (k : ℕ). count (length ns) (λ j. eqb (get_or ns j 0) 0) + k) (count_ext (length ns) _ _ (λ j h. refused-not (get_or ns j 0)))
+    ∙ count-not (length ns) (λ j. eqb (get_or ns j 0) 0)
+
 -- ---- the sheet
 abbrev pub line_at : List ℕ → ℕ → List ℕ
 line_at ns j = run_line (suc j) (get_or ns j 0)
@@ -93,30 +127,12 @@ built_then {f} {i} {at} {l = l} {o} b p =
     let front : Puts 0 at (cat i f) l o = record { long = omega (arith, b.long); is = b.is } in
     let w = puts_join (omega arith) front p in (omega (arith, w.long), w.is)
 
-sheet_is : (ns : List ℕ) {i a r t : ℕ} → i ≡ length ns
-    → a ≡ count i (λ j. eqb (get_or ns j 0) 0) → r ≡ count i (λ j. ltb 0 (get_or ns j 0)) → t ≡ i
-    → cat i (line_at ns) ++ (totals (decimal 2 a) (decimal 2 r) (decimal 2 t) ++ 10 ∷ []) ≡ sheet_of ns
-unfolding sheet_of
-sheet_is ns {i} {a} {r} {t} e f g h = rw (f, g, h, e) (sym (append_assoc (cat (length ns) (line_at ns)) _ (10 ∷ [])))
-
-pub sheet_written : (ns : List ℕ) {i at to a r t : ℕ} {l o q : List ℕ} → Built (line_at ns) i at l o → i ≡ length ns
-    → Puts at to (totals (decimal 2 a) (decimal 2 r) (decimal 2 t) ++ 10 ∷ []) o q
-    → a ≡ count i (λ j. eqb (get_or ns j 0) 0) → r ≡ count i (λ j. ltb 0 (get_or ns j 0)) → t ≡ i
+pub sheet_written : (ns : List ℕ) {i at to a r : ℕ} {l o q : List ℕ} → Built (line_at ns) i at l o → i ≡ length ns
+    → Puts at to (totals (decimal 2 a) (decimal 2 r) (decimal 2 (a + r)) ++ 10 ∷ []) o q
+    → a ≡ accepted_in ns → r ≡ refused_in ns
     → (to ≡ length (sheet_of ns)) × ((q ≡ sheet_of ns ++ drop to l) × ((to ≤ length q) × (to ≡ length (take to q))))
-sheet_written ns {to = to} {l = l} b e p f g h =
-    counted (sheet_of ns) (drop to l) (rw (sheet_is ns e f g h) at (built_then b p))
-
--- ---- counts
-pub at_most_one : {r : ℕ} (b : Bool) → r ≡ pick b 1 0 → r ≤ 1
-at_most_one true e = omega arith
-at_most_one false e = omega arith
-
-pub one_of : {a r : ℕ} (n : ℕ) → a ≡ pick (eqb n 0) 1 0 → r ≡ pick (ltb 0 n) 1 0 → a + r ≡ 1
-one_of zero e f = omega arith
-one_of (suc n) e f =
-    let e' = rw (ne_eqb (suc n) 0 (λ z. omega arith)) at e in
-    let f' = rw (lt-ltb 0 (suc n) (omega arith)) at f in
-    omega arith
-
-pub count-more : {a r : ℕ} (i : ℕ) (p : ℕ → Bool) → a ≡ count i p → r ≡ pick (p i) 1 0 → a + r ≡ count (i + 1) p
-count-more i p e f = rw (e, f, add-one) (sym (count_suc i p))
+unfolding sheet_of
+sheet_written ns {i} {at} {to} {a} {r} {l} b e p f g = counted (sheet_of ns) (drop to l) (rw sheet_is at (built_then b p))
+  where
+    sheet_is : cat i (line_at ns) ++ (totals (decimal 2 a) (decimal 2 r) (decimal 2 (a + r)) ++ 10 ∷ []) ≡ sheet_of ns
+    sheet_is = rw (f, g, all_counted ns, e) (sym (append_assoc (cat (length ns) (line_at ns)) _ (10 ∷ [])))

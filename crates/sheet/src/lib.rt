@@ -1,8 +1,7 @@
 // The sheet of a shift (document 02, U1): a line for each run and the numbers of accepted, of refused and of all runs.
 #![tactic(auto)]
 
-ghost use Rattle.std.specs.Prelude.{◌≡◌, List, ◌∷◌, [], ◌++◌, ℕ, ◌+◌, ◌*◌, ◌≤◌, ◌<◌, eqb, ltb, length, take, drop};
-ghost use Rattle.lists.specs.Index.{pick};
+ghost use Rattle.std.specs.Prelude.{◌≡◌, List, ◌∷◌, [], ◌++◌, ℕ, ◌+◌, ◌*◌, ◌≤◌, ◌<◌, length, take, drop};
 ghost use Rattle.lists.specs.Written.{Puts};
 ghost use Rattle.line.specs.Line.{decimal};
 ghost use Rattle.sheet.specs.Sheet.{name_of, run_line, totals, sheet_of};
@@ -10,6 +9,7 @@ ghost use Rattle.sheet.specs.Counted.{Counted};
 ghost use Rattle.sheet.specs.Cases.{one_empty_run, no_run};
 
 // The name of run i, counted from 1.
+#[tactic(auto, unfolding(crate::specs::Sheet::name_of))]
 pub fn name(i: usize) -> [u8; 5]
     requires { i < 100 }
     ensures { result ≡ name_of i }
@@ -17,7 +17,7 @@ pub fn name(i: usize) -> [u8; 5]
     [b'r', b'u', b'n', 48 + (i / 10) as u8, 48 + (i % 10) as u8]
 }
 
-// A text from a place on; returns its end.
+// A text from a place on; returns its end. `write!` would answer an Err that no contract rules out, and a sheet cannot fail.
 fn put_text(text: &[u8], at: usize, out: &mut [u8]) -> usize
     requires { at + length text.now ≤ length out.old }
     ensures { Puts at result text.now out.old out.new }
@@ -59,28 +59,9 @@ fn put_totals(accepted: u32, refused: u32, total: u32, at: usize, out: &mut [u8]
     put_text(b"\n", c, out)
 }
 
-// 1 for an accepted run, else 0.
-fn accepted_one(number: u32) -> u32
-    ensures { result ≡ pick (eqb number 0) 1 0 }
-{
-    if number == 0 {
-        return 1;
-    }
-    0
-}
-
-// 1 for a refused run, else 0.
-fn refused_one(number: u32) -> u32
-    ensures { result ≡ pick (ltb 0 number) 1 0 }
-{
-    if number > 0 {
-        return 1;
-    }
-    0
-}
-
 // The sheet of up to 99 runs in front of a list; returns its length. A run's line has 25 bytes at most, with a number of ten digits, and the
 // last line 32. The last clause follows from the others, for callers that take that part of the list.
+#[tactic(auto, unfolding(lists::specs::Index::cat))]
 pub fn write(verdicts: &[u32], out: &mut [u8]) -> usize
     requires verdicts_len_bound { length verdicts.now ≤ 99 }
     requires verdicts_in_bounds { 25 * length verdicts.now + 32 ≤ length out.old }
@@ -89,20 +70,16 @@ pub fn write(verdicts: &[u32], out: &mut [u8]) -> usize
     ensures upper_bound { (result ≤ length out.new) × (result ≡ length (take result out.new)) }
 {
     let mut at = 0;
-    let mut accepted: u32 = 0;
-    let mut refused: u32 = 0;
-    let mut i = 0;
-    while i < verdicts.len() {
-        let number = verdicts[i];
-        i += 1;
-        at = put_run(i, number, at, out);
-        accepted += accepted_one(number);
-        refused += refused_one(number);
+    for (i, number) in verdicts.iter().enumerate() {
+        at = put_run(i + 1, *number, at, out);
     }
+    let accepted = verdicts.iter().filter(|number| **number == 0).count() as u32;
+    let refused = verdicts.iter().filter(|number| **number > 0).count() as u32;
     put_totals(accepted, refused, accepted + refused, at, out)
 }
 
 // For the verdicts of up to 99 runs, each number of the sheet's last line is the number of such lines above it; both are read from the text.
+#[tactic(auto, using(crate::proofs::Lines::sheet_counted))]
 pub fn lines_counted()
     ensures { (ns : List ℕ) → length ns ≤ 99 → Counted (sheet_of ns) }
 {}

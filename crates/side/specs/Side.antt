@@ -6,7 +6,7 @@ use Rattle.protocol.specs.Key.{Key}
 use Rattle.protocol.specs.Prover.{opened}
 use Rattle.protocol.specs.Transcript.{Parts, parts_of}
 use Rattle.protocol.specs.Judge.{hidden, κ, kept_view, run_checks}
-use Rattle.key.specs.declared.Numbers.{Numbers}
+use Rattle.key.specs.declared.sizes.Numbers.{Numbers}
 use Rattle.key.specs.Numbers.{key_with}
 use Rattle.execution.specs.Shown.{Shown}
 use Rattle.inputs.specs.Layout.{Written}

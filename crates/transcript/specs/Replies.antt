@@ -13,7 +13,7 @@ use Rattle.protocol.specs.Key.{Key, depth}
 use Rattle.protocol.specs.Prover.{opened, place, hidden_of}
 use Rattle.protocol.specs.Transcript.{Parts}
 use Rattle.protocol.specs.Judge.{hidden, given_count, reply_size, reply_at, given, good_numbers}
-use Rattle.key.specs.declared.Numbers.{Numbers}
+use Rattle.key.specs.declared.sizes.Numbers.{Numbers}
 use Rattle.key.specs.Numbers.{Of, key_with}
 
 -- Parts of which only E, the hidden list and part 7 are known.
@@ -22,7 +22,7 @@ parts_with e h r = record { p1 = []; p2 = e; p3 = []; p4 = []; p5 = []; p6 = h; 
 
 -- The length and the numbers of part 7 depend on the key's numbers and on these parts alone.
 module _ (k : Numbers) (K : Key) (of : Of k K) where
-  numbered : record { q = k.q; n = k.n; m = k.m; N = k.parties; M = k.executions; τ = k.opened; entry = K.entry } ≡ K
+  numbered : record { q = k.modulus.q; n = k.n; m = k.m; N = k.parties; M = k.executions; τ = k.opened; entry = K.entry } ≡ K
   numbered =
       λ i.
       record { q = of.q_is i; n = of.n_is i; m = of.m_is i; N = of.parties_is i; M = of.executions_is i; τ = of.τ_is i; entry = K.entry }

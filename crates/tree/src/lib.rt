@@ -1,9 +1,18 @@
 // Document 01, Seed tree: all leaves of a seed, the opening that leaves one out, and the leaves of an opening.
 #![tactic(auto)]
 
-ghost use Rattle.std.specs.Prelude.{◌≡◌, ◌*◌, ◌^◌, ◌<◌, ◌≤◌, length};
+ghost use Rattle.std.specs.Prelude.{◌≡◌, ◌++◌, ◌*◌, ◌^◌, ◌<◌, ◌≤◌, length};
 ghost use Rattle.lists.specs.Index.{cat};
+ghost use Rattle.streams.specs.Streams.{block};
 ghost use Rattle.tree.specs.Tree.{leaf, opening, reopened};
+
+// Both children of a seed, one after the other.
+fn children(seed: &[u8]) -> [u8; 32]
+    requires { length seed.now ≡ 16 }
+    ensures { result ≡ block seed.now 0 ++ block seed.now 1 }
+{
+    streams::two_blocks(seed.try_into().unwrap(), 0)
+}
 
 // The 2 ^ depth leaves below a seed.
 pub fn leaves(depth: usize, seed: &[u8], out: &mut [u8])
@@ -12,13 +21,14 @@ pub fn leaves(depth: usize, seed: &[u8], out: &mut [u8])
     ensures { out.new ≡ cat (2 ^ depth) (leaf depth seed.now) }
 {
     if depth == 0 {
-        streams::copy(seed, out);
+        out.copy_from_slice(seed);
         return;
     }
-    let x = streams::two_blocks(seed, 0);
-    let half = out.len() / 2;
-    leaves(depth - 1, &x[..16], &mut out[..half]);
-    leaves(depth - 1, &x[16..], &mut out[half..]);
+    let x = children(seed);
+    let (left, right) = x.split_at(16);
+    let (first, second) = out.split_at_mut(out.len() / 2);
+    leaves(depth - 1, left, first);
+    leaves(depth - 1, right, second);
 }
 
 // The opening of all leaves below a seed but leaf h.
@@ -32,17 +42,19 @@ pub fn open_all_but(depth: usize, seed: &[u8], h: usize, out: &mut [u8])
     if depth == 0 {
         return;
     }
-    let x = streams::two_blocks(seed, 0);
+    let x = children(seed);
+    let (left, right) = x.split_at(16);
     let below = depth - 1;
     let half = 1usize << below;
     if h < half {
-        let at = 16 * below;
-        open_all_but(below, &x[..16], h, &mut out[..at]);
-        streams::copy(&x[16..], &mut out[at..]);
+        let (front, last) = out.split_at_mut(16 * below);
+        open_all_but(below, left, h, front);
+        last.copy_from_slice(right);
         return;
     }
-    streams::copy(&x[..16], &mut out[..16]);
-    open_all_but(below, &x[16..], h - half, &mut out[16..]);
+    let (first, back) = out.split_at_mut(16);
+    first.copy_from_slice(left);
+    open_all_but(below, right, h - half, back);
 }
 
 // The leaves that the opening x gives, with 16 zero bytes in the place of leaf h.
@@ -53,19 +65,20 @@ pub fn reopen(depth: usize, h: usize, x: &[u8], out: &mut [u8])
     ensures { out.new ≡ cat (2 ^ depth) (reopened depth h x.now) }
 {
     if depth == 0 {
-        let hidden = [0u8; 16];
-        streams::copy(&hidden, out);
+        out.fill(0);
         return;
     }
     let below = depth - 1;
     let half = out.len() / 2;
     let count = half / 16;
+    let (first, second) = out.split_at_mut(half);
     if h < count {
-        let at = 16 * below;
-        reopen(below, h, &x[..at], &mut out[..half]);
-        leaves(below, &x[at..], &mut out[half..]);
+        let (front, last) = x.split_at(16 * below);
+        reopen(below, h, front, first);
+        leaves(below, last, second);
         return;
     }
-    leaves(below, &x[..16], &mut out[..half]);
-    reopen(below, h - count, &x[16..], &mut out[half..]);
+    let (left, back) = x.split_at(16);
+    leaves(below, left, first);
+    reopen(below, h - count, back, second);
 }

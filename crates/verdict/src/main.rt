@@ -2,18 +2,8 @@
 // file is an empty one.
 #![tactic(auto)]
 
-ghost use Rattle.std.specs.Io.{ReadsAtMost};
-
-use std::rt::Files;
-use std::{fs, io};
-
-// The file's bytes in front of a list, as many as fit: how many they are, or why the file cannot be opened.
-fn load<R: Files>(files: &R, path: &str, out: &mut [u8]) -> io::Result<usize>
-    ensures { ReadsAtMost result out.new }
-{
-    let mut file = fs::open(files, path)?;
-    Ok(loading::fill(&mut file, out))
-}
+use answer::code::verdict_code;
+use loading::load;
 
 fn main(rt: HostRuntime) {
     let mut key = [0u8; 65536];
@@ -21,7 +11,7 @@ fn main(rt: HostRuntime) {
     let mut text = [0u8; 19];
     let k = load(&rt, "key", &mut key).unwrap_or(0);
     let r = load(&rt, "run", &mut run).unwrap_or(0);
-    let number = badge::badge_judge(&key[..k], &run[..r]);
+    let number = verdict_code(badge::badge_judge(&key[..k], &run[..r]));
     let n = line::verdict_line(number, &mut text);
     let _ = rt.write_all(&text[..n]);
 }

@@ -81,26 +81,19 @@ next : {x e : ℕ} → x ≡ e → e + 1 ≡ suc x
 next {x} {e} h = omega arith
 
 -- ---- Γ and h(e)
-pub gamma_last : (m N e : ℕ) (leaves work : List ℕ) (i : ℕ) → i + 1 ≡ N
-    → sha256 (input 3 (e + 1) (i + 1)
-    (take (16 * i + 16 - 16 * i) (drop (16 * i) leaves) ++ words (take (3 * m * i + m + m - (3 * m * i + m)) (drop (3 * m * i + m) work))
-    ++ block (take (16 * i + 16 - 16 * i) (drop (16 * i) leaves)) 0))
+pub gamma_last : (m N e : ℕ) (leaves work : List ℕ) (i : ℕ) {seed : List ℕ} → seed ≡ part leaves (16 * i) 16 → i + 1 ≡ N
+    → sha256 (input 3 (e + 1) (i + 1) (seed ++ words (take (3 * m * i + m + m - (3 * m * i + m)) (drop (3 * m * i + m) work)) ++ block seed 0))
     ≡ gamma_open m N e leaves work i
 unfolding gamma_open
-gamma_last m N e leaves work i h =
-    let x : 16 * i + 16 - 16 * i ≡ 16 = omega arith in
+gamma_last m N e leaves work i is h =
     let y : 3 * m * i + m + m - (3 * m * i + m) ≡ m = omega arith in
     let z : suc i ≡ N = omega arith in
-    rw (x, y, eq-eqb (suc i) N z)
+    rw (is, y, eq-eqb (suc i) N z)
 
-pub gamma_other : (m N e : ℕ) (leaves work : List ℕ) (i : ℕ) → (i + 1 ≡ N → ⊥)
-    → sha256 (input 3 (e + 1) (i + 1)
-    (take (16 * i + 16 - 16 * i) (drop (16 * i) leaves) ++ words [] ++ block (take (16 * i + 16 - 16 * i) (drop (16 * i) leaves)) 0))
-    ≡ gamma_open m N e leaves work i
+pub gamma_other : (m N e : ℕ) (leaves work : List ℕ) (i : ℕ) {seed : List ℕ} → seed ≡ part leaves (16 * i) 16 → (i + 1 ≡ N → ⊥)
+    → sha256 (input 3 (e + 1) (i + 1) (seed ++ words [] ++ block seed 0)) ≡ gamma_open m N e leaves work i
 unfolding gamma_open
-gamma_other m N e leaves work i h =
-    let x : 16 * i + 16 - 16 * i ≡ 16 = omega arith in
-    rw (x, ne_eqb (suc i) N (λ z. h (omega arith)))
+gamma_other m N e leaves work i is h = rw (is, ne_eqb (suc i) N (λ z. h (omega arith)))
 
 pub gamma_hidden : (m N hid e : ℕ) (given leaves work : List ℕ) (i : ℕ) → i ≡ hid → given ≡ gamma_at m N hid e given leaves work i
 unfolding gamma_at
@@ -148,14 +141,11 @@ module _ {m N hid e : ℕ} {given leaves work : List ℕ} {K : Key} {v : View} (
       (cat_ext N (λ i h. gamma_is i h) ∙ ap (λ n. cat n (Γ K v)) (sym so.parties))
 
 -- ---- Ω
-pub omega_is : {m N e : ℕ} {leaves work : List ℕ} {K : Key} {v : View} → ForΩ m N e leaves work K v → 1 ≤ N → 3 * m * N ≤ length work
-    → input 4 (e + 1) N
-    (words (take (3 * m * (N - 1) + 2 * m + m - (3 * m * (N - 1) + 2 * m)) (drop (3 * m * (N - 1) + 2 * m) work))
-    ++ block (take (16 * (N - 1) + 16 - 16 * (N - 1)) (drop (16 * (N - 1)) leaves)) 1)
-    ≡ Ωin K v
+pub omega_is : {m N e : ℕ} {leaves work seed : List ℕ} {K : Key} {v : View} → ForΩ m N e leaves work K v → 1 ≤ N → 3 * m * N ≤ length work
+    → seed ≡ part leaves (16 * (N - 1)) 16
+    → input 4 (e + 1) N (words (take (3 * m * (N - 1) + 2 * m + m - (3 * m * (N - 1) + 2 * m)) (drop (3 * m * (N - 1) + 2 * m) work)) ++ block seed 1) ≡ Ωin K v
 unfolding Ωin
-omega_is {m} {N} {e} {leaves} {work} {K} {v} so least long =
-    let x : 16 * (N - 1) + 16 - 16 * (N - 1) ≡ 16 = omega arith in
+omega_is {m} {N} {e} {leaves} {work} {seed} {K} {v} so least long is =
     let y : 3 * m * (N - 1) + 2 * m + m - (3 * m * (N - 1) + 2 * m) ≡ m = omega arith in
     let room : 3 * m * (N - 1) + 3 * m ≤ 3 * m * N = inside m N (N - 1) (omega arith) in
     let numbers : words (part work (3 * m * (N - 1) + 2 * m) m) ≡ nums m v.s_n =
@@ -164,7 +154,7 @@ omega_is {m} {N} {e} {leaves} {work} {K} {v} so least long =
     (λ k h.
     let w : 3 * m * (N - 1) + 2 * m + k ≡ 3 * m * (N - 1) + (2 * m + k) = omega arith in
     ap (λ n. get_or work n 0) w ∙ sym (so.s_n k h)) in
-    rw (so.ex, so.parties, so.columns, add-one e, x, y, numbers, so.seed)
+    rw (so.ex, so.parties, so.columns, add-one e, is, y, numbers, so.seed)
 
 -- ---- α, Π and the sums of α
 pub alpha_hidden : (q m hid : ℕ) (given work : List ℕ) (k i : ℕ) → i ≡ hid → num given k ≡ alpha_at q m hid given work k i

@@ -1,33 +1,33 @@
 // h(e) of an execution that is opened by master seed: the judge's, and message 1's.
 
-ghost use Rattle.std.specs.Prelude.{◌≡◌, ◌*◌, ◌^◌, ◌<◌, ◌≤◌, length};
-ghost use Rattle.execution.specs.Shown.{Limits};
+ghost use Rattle.std.specs.Prelude.{◌≡◌, ◌*◌, ◌<◌, ◌≤◌, length};
 ghost use Rattle.views.specs.Opened.{OpenedHash};
 
 use crate::parties::h_of;
-use execution::prepare;
+use execution::{Dealing, Lists, prepare};
 
 // h(e) of an execution that is opened by master seed.
+#[tactic(auto, using(crate::proofs::Laws::opened_for_h))]
 pub fn opened_hash(
-    q: u32,
-    m: usize,
-    parties: usize,
-    depth: usize,
+    dealing: Dealing,
     execution: usize,
-    master: &[u8],
+    master: &[u8; 16],
     leaves: &mut [u8],
     work: &mut [u32],
 ) -> [u8; 32]
-    requires limits { Limits q m parties }
-    requires depth_value { 2 ^ depth ≡ parties }
     requires execution_bound { execution < 32 }
-    requires master_len { length master.now ≡ 16 }
-    requires leaves_len { length leaves.old ≡ 16 * parties }
-    requires parties_in_bounds { 3 * m * parties ≤ length work.old }
-    ensures opened_hash { OpenedHash q m parties depth execution master.now result }
+    requires leaves_long { length leaves.old ≡ 16 * dealing.parties }
+    requires work_long { 3 * dealing.m * dealing.parties ≤ length work.old }
+    ensures opened_hash { OpenedHash dealing.modulus.q dealing.m dealing.parties dealing.depth execution master.now result }
     ensures leaves_len_unchanged { length leaves.new ≡ length leaves.old }
     ensures work_len_unchanged { length work.new ≡ length work.old }
 {
-    prepare::deal_opened(q, m, parties, depth, master, leaves, work);
-    h_of(m, parties, parties, execution, &master[..0], leaves, work)
+    prepare::deal_opened(dealing, master, leaves, work);
+    let lists = Lists {
+        m: dealing.m,
+        parties: dealing.parties,
+        leaves,
+        work,
+    };
+    h_of(lists, dealing.parties, execution, &[])
 }

@@ -2,7 +2,7 @@
 -- Assumes nothing.
 use Prim.Native.Nat.{ℕ, zero, suc, ◌+◌, ◌*◌, ◌-◌, ◌<◌, ◌≤◌}
 use mathlib.Core.Path.{◌≡◌, refl, sym, ◌∙◌, ap, subst}
-use mathlib.Core.Bool.{Bool, true, false}
+use mathlib.Core.Bool.{Bool, true}
 use mathlib.Core.Logic.{⊎_elim}
 use mathlib.Core.List.{List, [], ◌++◌}
 use native.Mathlib.Nat.{eq-or-lt_of_le}
@@ -10,21 +10,23 @@ use native.Mathlib.Numerals.{add-one}
 use native.Mathlib.Omega.{arith}
 use lib.ListN.{length}
 use Rattle.lists.specs.Index.{pick, cat, count, part}
-use Rattle.lists.specs.Check.{Check, accepted, refused, first}
+use Rattle.lists.specs.Check.{Verdict, accepted, refused, first}
 use Rattle.lists.specs.CatLaws.{cat_zero, cat-more}
-use Rattle.lists.specs.TestLaws.{decide, pick_true, pick_false, count_zero, count_hit, count_miss, count-le, count-not, first_nil, first-cat_zero, first-cat-next, first-cat_stops}
+use Rattle.lists.specs.TestLaws.{decide, pick_true, pick_false, count_zero, count_hit, count_miss, count-le, count-not, first-cat_zero, first-cat-next, first-cat_stops}
 use Rattle.numbers.proofs.Sum.{sum_zero}
 use Rattle.protocol.specs.Key.{Key, kept_count}
 use Rattle.protocol.specs.Shares.{input}
 use Rattle.protocol.specs.Prover.{opened, rank, place, kept, hΓin, hπin, hψin, good_e}
 use Rattle.protocol.specs.Transcript.{Parts}
-use Rattle.protocol.specs.Judge.{reply_size, execution_checks}
+use Rattle.protocol.specs.Judge.{reply_size}
 use Rattle.protocol.specs.Pair.{is_accepted}
 use Rattle.protocol.proofs.Opened.{opened-count}
-use Rattle.refusals.specs.Number.{number_of, Numbered, none_applies, refused_is}
 use Rattle.walk.specs.Lists.{lists_size}
-use Rattle.walk.specs.Walk.{Reached, Stepped, placed, stored, Stored, Going, Walked, checks_at, hash_at, Π_at, Ψ_at}
-use Rattle.walk.proofs.Stores.{placed_same}
+use Rattle.walk.specs.Walk.{Reached, Stepped, placed, stored, Going, Walked, checks_at, hash_at, Π_at, Ψ_at}
+
+Is_refused : Verdict → Type 0
+Is_refused accepted = ⊥
+Is_refused (refused n) = Unit {0}
 
 module _ (K : Key) (P : Parts) where
   pub reached_first : Reached 0 0 16 K P
@@ -42,13 +44,6 @@ module _ (K : Key) (P : Parts) where
         Ψs = sym (cat_zero (λ j. pick (opened P.p2 j) [] (Ψ_at K P j)));
         clean = first-cat_zero (checks_at K P);
       }
-
-  -- a digest that is stored unless the execution is opened
-  only_kept : (e : ℕ) (t : Bool) (d x : List ℕ) → t ≡ opened P.p2 e → (opened P.p2 e ≡ false → d ≡ x) → pick t [] d ≡ pick (opened P.p2 e) [] x
-  only_kept e t d x is h =
-      ap (λ (u : Bool). pick u [] d) is
-      ∙ ⊎_elim (λ y. pick_true (opened P.p2 e) [] d y ∙ sym (pick_true (opened P.p2 e) [] x y)) (λ y. ap (λ (l : List ℕ). pick (opened P.p2 e) [] l) (h y))
-      (decide (opened P.p2 e))
 
   -- one item more
   one_more : {x d : List ℕ} (a b : ℕ) {n e : ℕ} (y : List ℕ) (f : ℕ → List ℕ) → part y a b ≡ x ++ d → x ≡ cat e f → d ≡ f e → n ≡ b → part y a n ≡ cat (e + 1) f
@@ -71,16 +66,14 @@ module _ (K : Key) (P : Parts) where
   place_at {e} here = omega (arith, here.rank_is, count-not e (opened P.p2))
 
   -- the list after an execution that is not refused, and from the first refusal on
-  stored_next : (e : ℕ) (x₀ : List ℕ) {M c p : ℕ} {t : Bool} {h pi psi x y : List ℕ} → first (cat (e + 1) (checks_at K P)) ≡ accepted → M ≡ K.M → c ≡ kept_count K → p ≡ place P.p2 e
-      → t ≡ opened P.p2 e → h ≡ hash_at K P e → (opened P.p2 e ≡ false → pi ≡ Π_at K P e) → (opened P.p2 e ≡ false → psi ≡ Ψ_at K P e) → x ≡ stored K P e x₀
-      → y ≡ placed M c e p t h pi psi x → y ≡ stored K P (e + 1) x₀
+  stored_next : (e : ℕ) (x₀ : List ℕ) {x y : List ℕ} → first (cat (e + 1) (checks_at K P)) ≡ accepted → x ≡ stored K P e x₀
+      → y ≡ placed K.M (kept_count K) e (place P.p2 e) (opened P.p2 e) (hash_at K P e) (Π_at K P e) (Ψ_at K P e) x → y ≡ stored K P (e + 1) x₀
   unfolding stored is_accepted
-  stored_next e x₀ {M} {c} {p} {t} {h} {pi} {psi} {x} {y} good em ec ep et eh eπ eψ ex is =
+  stored_next e x₀ {x} {y} good ex is =
       is
-      ∙ ((λ i. placed (em i) (ec i) e (ep i) (et i) (eh i) pi psi (ex i))
-      ∙ (placed_same K.M (kept_count K) e (place P.p2 e) (opened P.p2 e) (hash_at K P e) (stored K P e x₀) eπ eψ
+      ∙ (ap (λ (l : List ℕ). placed K.M (kept_count K) e (place P.p2 e) (opened P.p2 e) (hash_at K P e) (Π_at K P e) (Ψ_at K P e) l) ex
       ∙ (sym (pick_true (is_accepted (first (cat (suc e) (checks_at K P)))) _ _ (ap is_accepted (ap (λ (j : ℕ). first (cat j (checks_at K P))) (sym (add-one e)) ∙ good)))
-      ∙ ap (λ (j : ℕ). stored K P j x₀) (sym (add-one e)))))
+      ∙ ap (λ (j : ℕ). stored K P j x₀) (sym (add-one e))))
 
   stored_stops : (n : ℕ) {e k : ℕ} (x₀ : List ℕ) → e ≤ n → first (cat e (checks_at K P)) ≡ accepted → first (checks_at K P e) ≡ refused k → stored K P n x₀ ≡ stored K P e x₀
   unfolding stored is_accepted
@@ -91,65 +84,62 @@ module _ (K : Key) (P : Parts) where
       ∙ stored_stops n x₀ (omega (arith, l)) good bad)
       (eq-or-lt_of_le h)
 
-  pub numbered : (e : ℕ) (t : Bool) → Numbered (pick t [] (execution_checks K P e))
-  unfolding execution_checks
-  numbered e true = tt
-  numbered e false = (omega arith, (omega arith, tt))
+  -- one execution more
+  going_step : {e r at r' at' : ℕ} {x₀ x y : List ℕ} → Going K P K.M (kept_count K) e r at x₀ x → Stepped K P e r' at' x y → first (checks_at K P e) ≡ accepted
+      → Going K P K.M (kept_count K) (e + 1) r' at' x₀ y
+  going_step {e} {r} {at} {r'} {at'} {x₀} {x} {y} so step passes =
+      let w : 32 * (e + 1) ≡ 32 * e + 32 = omega arith in
+      let good : first (cat (e + 1) (checks_at K P)) ≡ accepted = first-cat-next e (checks_at K P) so.clean passes in
+      let here : place P.p2 e ≡ e - r = place_at so.reached in
+      let next : 32 * (e + 1 - r') ≡ 32 * place P.p2 e + pick (opened P.p2 e) 0 32 =
+      next_place so.reached step.next refl ∙ ap (λ (p : ℕ). 32 * p + pick (opened P.p2 e) 0 32) (sym here) in
+      record {
+        reached = step.next;
+        lists_are = stored_next e x₀ good so.lists_are step.lists_are;
+        Γs = one_more 0 (32 * e + 32) y (hash_at K P) step.stored.Γ so.Γs refl w;
+        Πs =
+            one_more (32 * K.M) (32 * place P.p2 e + pick (opened P.p2 e) 0 32) y (λ j. pick (opened P.p2 j) [] (Π_at K P j)) step.stored.Π
+            (ap (λ (p : ℕ). part x (32 * K.M) (32 * p)) here ∙ so.Πs) refl next;
+        Ψs =
+            one_more (32 * K.M + 32 * kept_count K) (32 * place P.p2 e + pick (opened P.p2 e) 0 32) y (λ j. pick (opened P.p2 j) [] (Ψ_at K P j)) step.stored.Ψ
+            (ap (λ (p : ℕ). part x (32 * K.M + 32 * kept_count K) (32 * p)) here ∙ so.Ψs) refl next;
+        clean = good;
+      }
 
-  module _ {M c e r at r' at' code : ℕ} {h pi psi x₀ x : List ℕ} (so : Going K P M c e r at x₀ x) (step : Stepped K P e code h pi psi r' at') {t : Bool} {n : ℕ}
-      (is : t ≡ opened P.p2 e) (counts : n ≡ pick t 0 code) where
-    -- the refusal that counts is that of the tests
-    counts_is : n ≡ number_of (first (checks_at K P e))
-    counts_is =
-        counts
-        ∙ (ap (λ (b : Bool). pick b 0 code) is
-        ∙ ⊎_elim
-        (λ y. pick_true (opened P.p2 e) 0 code y ∙ sym (ap number_of (ap first (pick_true (opened P.p2 e) [] (execution_checks K P e) y) ∙ first_nil)))
-        (λ y. pick_false (opened P.p2 e) 0 code y
-        ∙ (step.code_is y ∙ sym (ap (λ (l : List Check). number_of (first l)) (pick_false (opened P.p2 e) [] (execution_checks K P e) y))))
-        (decide (opened P.p2 e)))
+  -- by the numbers of the code
+  by_key : {M c e r at : ℕ} {x₀ x : List ℕ} → K.M ≡ M → kept_count K ≡ c → Going K P M c e r at x₀ x → Going K P K.M (kept_count K) e r at x₀ x
+  by_key {M} {c} {e} {r} {at} {x₀} {x} em ec so =
+      subst (λ (y : ℕ). Going K P y (kept_count K) e r at x₀ x) (sym em) (subst (λ (y : ℕ). Going K P M y e r at x₀ x) (sym ec) so)
 
-    pub going_next : {y : List ℕ} → n ≡ 0 → K.M ≡ M → kept_count K ≡ c → Stored M c e (e - r) t h pi psi x y → y ≡ placed M c e (e - r) t h pi psi x
-        → Going K P M c (e + 1) r' at' x₀ y
-    going_next {y} z em ec st put =
-        let w : 32 * (e + 1) ≡ 32 * e + 32 = omega arith in
-        let good : first (cat (e + 1) (checks_at K P)) ≡ accepted =
-        first-cat-next e (checks_at K P) so.clean (none_applies (checks_at K P e) (numbered e (opened P.p2 e)) (sym counts_is ∙ z)) in
-        record {
-          reached = step.next;
-          lists_are = stored_next e x₀ good (sym em) (sym ec) (sym (place_at so.reached)) is step.h_is step.Π_is step.Ψ_is so.lists_are put;
-          Γs = one_more 0 (32 * e + 32) y (hash_at K P) st.Γ so.Γs step.h_is w;
-          Πs =
-              one_more (32 * M) (32 * (e - r) + pick t 0 32) y (λ j. pick (opened P.p2 j) [] (Π_at K P j)) st.Π so.Πs (only_kept e t pi (Π_at K P e) is step.Π_is)
-              (next_place so.reached step.next is);
-          Ψs =
-              one_more (32 * M + 32 * c) (32 * (e - r) + pick t 0 32) y (λ j. pick (opened P.p2 j) [] (Ψ_at K P j)) st.Ψ so.Ψs (only_kept e t psi (Ψ_at K P e) is step.Ψ_is)
-              (next_place so.reached step.next is);
-          clean = good;
-        }
+  pub going_next : {M c e r at r' at' : ℕ} {x₀ x y : List ℕ} → K.M ≡ M → kept_count K ≡ c → Going K P M c e r at x₀ x → Stepped K P e r' at' x y
+      → first (checks_at K P e) ≡ accepted → Going K P M c (e + 1) r' at' x₀ y
+  going_next {M} {c} {e} {r} {at} {r'} {at'} {x₀} {x} {y} em ec so step passes =
+      subst (λ (z : ℕ). Going K P z c (e + 1) r' at' x₀ y) em
+      (subst (λ (z : ℕ). Going K P K.M z (e + 1) r' at' x₀ y) ec (going_step (by_key em ec so) step passes))
 
-    -- the first refusal
-    pub walk_stops : e < K.M → (n ≡ 0 → ⊥) → Walked K P n x₀ x
-    walk_stops below ne =
-        let bad : first (checks_at K P e) ≡ refused n = refused_is (first (checks_at K P e)) counts_is ne in
-        record {
-          code_is = sym (ap number_of (first-cat_stops K.M e (checks_at K P) below so.clean bad));
-          clean = λ z. absurd (ne z);
-          lists_are = so.lists_are ∙ sym (stored_stops K.M x₀ (omega arith) so.clean bad);
-          listed = λ z. absurd (ne z);
-        }
+  -- the first refusal
+  pub walk_stops : {M c e r at n : ℕ} {x₀ x : List ℕ} → Going K P M c e r at x₀ x → e < K.M → first (checks_at K P e) ≡ refused n → Walked K P (refused n) x₀ x
+  unfolding Is_refused
+  walk_stops {M} {c} {e} {r} {at} {n} {x₀} {x} so below bad =
+      record {
+        verdict_is = sym (first-cat_stops K.M e (checks_at K P) below so.clean bad);
+        lists_are = so.lists_are ∙ sym (stored_stops K.M x₀ (omega arith) so.clean bad);
+        listed = λ z. absurd (refused_not z);
+      }
+    where
+      refused_not : {m : ℕ} → refused m ≡ accepted → ⊥
+      refused_not z = subst (λ (v : Verdict). Is_refused v) z tt
 
   -- all executions are done
   all_done : {e r at : ℕ} {x₀ x : List ℕ} → good_e K P.p2 ≡ true → Going K P K.M (kept_count K) e r at x₀ x → e ≡ K.M
-      → length x ≡ lists_size K.M (kept_count K) → Walked K P 0 x₀ x
+      → length x ≡ lists_size K.M (kept_count K) → Walked K P accepted x₀ x
   unfolding hΓin hπin hψin kept input rank
   all_done {e} {r} {at} {x₀} {x} good so z long =
       let done : first (cat K.M (checks_at K P)) ≡ accepted = subst (λ (y : ℕ). first (cat y (checks_at K P)) ≡ accepted) z so.clean in
       let ranked : count K.M (opened P.p2) ≡ r = ap (λ (y : ℕ). count y (opened P.p2)) (sym z) ∙ so.reached.rank_is in
       let kept_all : kept_count K ≡ e - r = omega (arith, ranked, opened-count K P.p2 good, z) in
       record {
-        code_is = sym (ap number_of done);
-        clean = λ _. done;
+        verdict_is = sym done;
         lists_are = so.lists_are ∙ ap (λ (y : ℕ). stored K P y x₀) z;
         listed = λ _.
             record {
@@ -163,8 +153,5 @@ module _ (K : Key) (P : Parts) where
       }
 
   pub walk_ends : {M c e r at : ℕ} {x₀ x : List ℕ} → K.M ≡ M → kept_count K ≡ c → good_e K P.p2 ≡ true → Going K P M c e r at x₀ x → e ≡ M
-      → length x ≡ lists_size M c → Walked K P 0 x₀ x
-  walk_ends {M} {c} {e} {r} {at} {x₀} {x} em ec good so z long =
-      all_done good
-      (subst (λ (y : ℕ). Going K P y (kept_count K) e r at x₀ x) (sym em) (subst (λ (y : ℕ). Going K P M y e r at x₀ x) (sym ec) so)) (z ∙ sym em)
-      (long ∙ sym (λ i. lists_size (em i) (ec i)))
+      → length x ≡ lists_size M c → Walked K P accepted x₀ x
+  walk_ends em ec good so z long = all_done good (by_key em ec so) (z ∙ sym em) (long ∙ sym (λ i. lists_size (em i) (ec i)))

@@ -1,48 +1,35 @@
 -- One execution of the walk: its bounds, and what the code computes of it is what document 01 says.
 -- Assumes nothing.
-use Prim.Native.Nat.{ℕ, suc, ◌+◌, ◌*◌, ◌-◌, ◌<◌, ◌≤◌}
+use Prim.Native.Nat.{ℕ, suc, ◌^◌, ◌+◌, ◌*◌, ◌-◌, ◌<◌, ◌≤◌}
 use mathlib.Core.Path.{◌≡◌, sym, ◌∙◌, ap, ap₂, subst}
 use mathlib.Core.Bool.{Bool, true, false, not}
 use mathlib.Core.Logic.{⊎_elim}
-use mathlib.Core.List.{List, [], ◌∷◌}
+use mathlib.Core.List.{List, []}
 use native.Mathlib.Omega.{arith}
 use borrow.Author.Tests.{eqb-true, leb-true, eq-eqb, not-false}
 use lib.Dec.{eqb, leb, ltb}
 use lib.ListN.{length, get_or, take, drop}
 use Rattle.lists.specs.Index.{pick, every, same, part}
-use Rattle.lists.specs.Check.{Check, ◌⇒◌, first}
-use Rattle.lists.specs.TestLaws.{decide, clash, pick_true, pick_false, every-at, count_hit, count_miss, count_below, count-le, count_mono, count-not, holds-each, first_nil, first_hit, first_miss, not_of_true, not_of_false}
-use Rattle.lists.specs.CatLaws.{part_length}
+use Rattle.lists.specs.Check.{accepted, first}
+use Rattle.lists.specs.TestLaws.{decide, clash, pick_true, pick_false, every-at, count_hit, count_miss, count_below, count-le, count_mono, count-not, holds-each, first_nil}
 use Rattle.numbers.specs.Sum.{sum}
 use Rattle.sha_core.specs.Fips180.{sha256}
-use Rattle.protocol.specs.Key.{Key}
+use Rattle.protocol.specs.Key.{Key, depth, kept_count}
 use Rattle.protocol.specs.Shares.{View, hin, Πin, Ψin, Ωin, dealt}
 use Rattle.protocol.specs.Prover.{opened, rank, place, hidden_of, good_e, good_hidden}
 use Rattle.protocol.specs.Transcript.{Parts}
 use Rattle.protocol.specs.Judge.{hidden, given_count, reply_size, reply_at, given, κ, master_at, Ω_at, opened_view, kept_view, view, good_numbers, form_checks, execution_checks}
 use Rattle.protocol.proofs.Opened.{opened-count, place-lt}
 use Rattle.protocol.proofs.Sizes.{hidden_length, hidden_lt}
-use Rattle.refusals.specs.Number.{number_of}
 use Rattle.execution.specs.Prepared.{Given, last_count}
 use Rattle.execution.proofs.Held.{given_count_lem, given_good}
 use Rattle.transcript.specs.Replies.{size_kept, at-opened, at-kept, reply-within}
 use Rattle.views.specs.Opened.{OpenedHash}
 use Rattle.kept.specs.Kept.{KeptIn, Evaluates}
-use Rattle.walk.specs.Walk.{Standing, Reached, Stepped, kept_tests}
+use Rattle.walk.specs.Lists.{lists_size}
+use Rattle.walk.specs.Walk.{Standing, Reached, Stored, Stepped, kept_tests, put, checks_at, hash_at, Π_at, Ψ_at}
+use Rattle.walk.proofs.Stores.{stored-opened, stored-kept}
 use Rattle.walk.proofs.Going.{place_at}
-
--- ---- slices and tests
-pub slice_long : (x : List ℕ) (a n : ℕ) → a + n ≤ length x → length (take (a + n - a) (drop a x)) ≡ n
-slice_long x a n h = let w : a + n - a ≡ n = omega arith in part_length x a (a + n - a) (omega arith) ∙ w
-
-pub refuses : (t : Bool) (n : ℕ) (l : List Check) → t ≡ false → n ≡ number_of (first ((not t ⇒ n) ∷ l))
-refuses t n l e = sym (ap number_of (first_hit (not t) n l (not_of_false e)))
-
-pub passes : (t : Bool) (n : ℕ) (l : List Check) {r : ℕ} → t ≡ true → r ≡ number_of (first l) → r ≡ number_of (first ((not t ⇒ n) ∷ l))
-passes t n l {r} e is = is ∙ sym (ap number_of (first_miss (not t) n l (not_of_true e)))
-
-pub none : 0 ≡ number_of (first [])
-none = sym (ap number_of first_nil)
 
 -- ---- one execution
 module _ {q n m N M τ D : ℕ} {entries p2 p3 p4 p6 p7 : List ℕ} {K : Key} {P : Parts} (so : Standing q n m N M τ D entries p2 p3 p4 p6 p7 K P) where
@@ -62,6 +49,10 @@ module _ {q n m N M τ D : ℕ} {entries p2 p3 p4 p6 p7 : List ℕ} {K : Key} {P
   unfolding form_checks
   good-numbers = not-false _ so.form.1.1.1.0
 
+  pub depth_most : D ≤ 5
+  unfolding depth
+  depth_most = omega (arith, so.deep, count-le 5 (λ j. leb (2 ^ suc j) K.N))
+
   pub replies_least : 16 ≤ length p7
   replies_least = subst (λ (x : List ℕ). 16 ≤ length x) so.seventh (omega (arith, replies_long))
 
@@ -78,6 +69,15 @@ module _ {q n m N M τ D : ℕ} {entries p2 p3 p4 p6 p7 : List ℕ} {K : Key} {P
           omega (arith, here.rank_is, so.executions, so.openings, opened-count K P.p2 good_e_lem, count-not e p, count-not K.M p, count_mono (λ j. not (p j)) e K.M (omega (arith, inside))),
         )
 
+    place_is : place P.p2 e ≡ e - r
+    place_is = place_at K P here
+
+    place_within : place P.p2 e ≤ kept_count K
+    place_within = omega (arith, place_is, place_most.1, so.executions, so.openings)
+
+    long_by : (x : List ℕ) → length x ≡ lists_size M (M - τ) → length x ≡ 32 * K.M + 64 * kept_count K
+    long_by x h = omega (arith, h, so.executions, so.openings)
+
     -- ---- opened by master seed
     module _ (t : opened p2 e ≡ true) where
       opened_p : opened P.p2 e ≡ true
@@ -88,6 +88,9 @@ module _ {q n m N M τ D : ℕ} {entries p2 p3 p4 p6 p7 : List ℕ} {K : Key} {P
       rank_below =
           omega (arith, here.rank_is, so.openings, opened-count K P.p2 good_e_lem, count_below K.M (opened P.p2) e inside opened_p)
 
+      pub none_opened : accepted ≡ first (checks_at K P e)
+      none_opened = sym (ap first (pick_true (opened P.p2 e) [] (execution_checks K P e) opened_p) ∙ first_nil)
+
       view_opened : view K P e ≡ dealt K e (take (16 * r + 16 - 16 * r) (drop (16 * r) p3)) (λ k. 0)
       unfolding view opened_view master_at
       view_opened =
@@ -96,18 +99,19 @@ module _ {q n m N M τ D : ℕ} {entries p2 p3 p4 p6 p7 : List ℕ} {K : Key} {P
           ∙ ap (λ (x : List ℕ). dealt K e x (λ k. 0))
           (ap₂ (λ (x : List ℕ) (y : ℕ). part x (16 * y) 16) so.third here.rank_is ∙ ap (λ (x : ℕ). take x (drop (16 * r) p3)) w)
 
-      pub opened_step : {h : List ℕ} → OpenedHash q m N D e (take (16 * r + 16 - 16 * r) (drop (16 * r) p3)) h → Stepped K P e 0 h h h (r + 1) at
+      pub opened_step : {h x : List ℕ} → length h ≡ 32 → length x ≡ lists_size M (M - τ) → OpenedHash q m N D e (take (16 * r + 16 - 16 * r) (drop (16 * r) p3)) h
+          → Stepped K P e (r + 1) at x (put x (32 * e) 32 h)
       unfolding rank
-      opened_step {h} made =
+      opened_step {h} {x} lh lx made =
+          let is : h ≡ hash_at K P e = made.is K (λ k. 0) so.sized so.deep ∙ ap (λ (x : View). sha256 (hin K x)) (sym view_opened) in
+          let both = stored-opened (hash_at K P e) (Π_at K P e) (Ψ_at K P e) x opened_p inside (ap (λ (l : List ℕ). length l) (sym is) ∙ lh) (long_by x lx) place_within in
           record {
-            code_is = λ c. absurd (clash opened_p c);
-            h_is = made.is K (λ k. 0) so.sized so.deep ∙ ap (λ (x : View). sha256 (hin K x)) (sym view_opened);
-            Π_is = λ c. absurd (clash opened_p c);
-            Ψ_is = λ c. absurd (clash opened_p c);
             next = record {
               rank_is = count_hit e (opened P.p2) opened_p ∙ ap (λ (x : ℕ). x + 1) here.rank_is;
               at_is = sym (at-opened K P e at (sym here.at_is) opened_p);
             };
+            stored = subst (λ (l : List ℕ). Stored K.M (kept_count K) e (place P.p2 e) (opened P.p2 e) (hash_at K P e) (Π_at K P e) (Ψ_at K P e) x (put x (32 * e) 32 l)) (sym is) both.0;
+            lists_are = ap (λ (l : List ℕ). put x (32 * e) 32 l) is ∙ both.1;
           }
 
     -- ---- kept
@@ -115,12 +119,12 @@ module _ {q n m N M τ D : ℕ} {entries p2 p3 p4 p6 p7 : List ℕ} {K : Key} {P
       kept_p : opened P.p2 e ≡ false
       kept_p = ap (λ (x : List ℕ). opened x e) so.second ∙ t
 
+      pub tests_kept : first (execution_checks K P e) ≡ first (checks_at K P e)
+      tests_kept = sym (ap first (pick_false (opened P.p2 e) [] (execution_checks K P e) kept_p))
+
       pub rank_most : r ≤ e
       unfolding rank
       rank_most = omega (arith, here.rank_is, count-le e (opened P.p2))
-
-      place_is : place P.p2 e ≡ e - r
-      place_is = place_at K P here
 
       pub place_below : e - r < M - τ
       place_below = omega (arith, place_is, place-lt K P.p2 good_e_lem e inside kept_p, so.executions, so.openings)
@@ -159,9 +163,6 @@ module _ {q n m N M τ D : ℕ} {entries p2 p3 p4 p6 p7 : List ℕ} {K : Key} {P
               let w : reply_size K P e ≡ end - at = omega (arith, size_is) in
               ap₂ (λ (x : List ℕ) (y : ℕ). part x y (reply_size K P e)) so.seventh here.at_is ∙ ap (λ (x : ℕ). take x (drop at p7)) w
 
-          pub reply-long : length (take (end - at) (drop at p7)) ≡ 16 * D + 32 + 4 * (m + 1 + last_count m N hid)
-          reply-long = omega (arith, part_length p7 at (end - at) (omega (arith, end_inside)), ends)
-
           pub given_is : Given q m N D hid (take (end - at) (drop at p7))
           unfolding good_numbers
           given_is =
@@ -169,8 +170,8 @@ module _ {q n m N M τ D : ℕ} {entries p2 p3 p4 p6 p7 : List ℕ} {K : Key} {P
               (sym (pick_false (opened P.p2 e) true (every (given_count K P e) (λ j. ltb (given K P e j) K.q)) kept_p)
               ∙ every-at K.M (λ e. pick (opened P.p2 e) true (every (given_count K P e) (λ j. ltb (given K P e j) K.q))) good-numbers e inside)
 
-          pub kept_in : KeptIn q n m N D hid e (take (end - at) (drop at p7)) (take 16 p7) p4 entries K P
-          kept_in =
+          pub kept_in : {kappa seed : List ℕ} → kappa ≡ take 16 p7 → seed ≡ p4 → KeptIn q n m N D hid e (take (end - at) (drop at p7)) kappa seed entries K P
+          kept_in ek es =
               record {
                 sized = so.sized;
                 rows = so.rows;
@@ -178,8 +179,8 @@ module _ {q n m N M τ D : ℕ} {entries p2 p3 p4 p6 p7 : List ℕ} {K : Key} {P
                 deep = so.deep;
                 hides = hides;
                 at = reply_is;
-                κ_is = ap (take 16) so.seventh;
-                l_is = so.fourth;
+                κ_is = ap (take 16) so.seventh ∙ sym ek;
+                l_is = so.fourth ∙ sym es;
               }
 
           view_kept : view K P e ≡ kept_view K P e
@@ -194,9 +195,8 @@ module _ {q n m N M τ D : ℕ} {entries p2 p3 p4 p6 p7 : List ℕ} {K : Key} {P
               ∙ (ap₂ (λ (x y : ℕ). part p3 (16 * x + 32 * y) 32) (sym so.openings) (sym place_is)
               ∙ ap (λ (x : List ℕ). part x (16 * K.τ + 32 * place P.p2 e) 32) (sym so.third))
 
-          module _ {h om pi psi : List ℕ} {zero good : Bool} {code : ℕ} (ev : Evaluates K P e h om pi psi zero)
-              (g : good ≡ pick (eqb (suc hid) N) true (same (take (16 * τ + 32 * (e - r) + 32 - (16 * τ + 32 * (e - r))) (drop (16 * τ + 32 * (e - r)) p3)) om))
-              (c : code ≡ number_of (first (kept_tests good zero))) where
+          module _ {h om pi psi : List ℕ} {zero good : Bool} (ev : Evaluates K P e h om pi psi zero)
+              (g : good ≡ pick (eqb (suc hid) N) true (same (take (16 * τ + 32 * (e - r) + 32 - (16 * τ + 32 * (e - r))) (drop (16 * τ + 32 * (e - r)) p3)) om)) where
             good_is : good ≡ pick (eqb (suc (hidden K P e)) K.N) true (same (Ω_at K P e) (sha256 (Ωin K (kept_view K P e))))
             good_is =
                 g
@@ -206,20 +206,30 @@ module _ {q n m N M τ D : ℕ} {entries p2 p3 p4 p6 p7 : List ℕ} {K : Key} {P
                 (λ y. ap₂ (λ (a b : List ℕ). pick (eqb (suc (hidden K P e)) K.N) true (same a b)) omega_is (ev.Ω_is (λ z. clash (eq-eqb _ _ z) y)))
                 (decide (eqb (suc (hidden K P e)) K.N)))
 
-            code_kept : code ≡ number_of (first (execution_checks K P e))
+            pub tests_are : first (kept_tests good zero) ≡ first (execution_checks K P e)
             unfolding execution_checks
-            code_kept = c ∙ ap₂ (λ (a b : Bool). number_of (first (kept_tests a b))) good_is ev.answers.zero_is
+            tests_are = ap₂ (λ (a b : Bool). first (kept_tests a b)) good_is ev.answers.zero_is
 
-            pub kept_step : Stepped K P e code h pi psi r end
+            pub kept_step : {x : List ℕ} → length h ≡ 32 → length pi ≡ 32 → length psi ≡ 32 → length x ≡ lists_size M (M - τ)
+                → Stepped K P e r end x (put (put (put x (32 * e) 32 h) (32 * M + 32 * (e - r)) 32 pi) (32 * M + 32 * (M - τ) + 32 * (e - r)) 32 psi)
             unfolding rank
-            kept_step =
+            kept_step {x} lh li ls lx =
+                let eh : h ≡ hash_at K P e = ev.h_is ∙ ap (λ (x : View). sha256 (hin K x)) (sym view_kept) in
+                let ei : pi ≡ Π_at K P e = ev.answers.Π_is ∙ ap (λ (x : View). sha256 (Πin K x (κ K P))) (sym view_kept) in
+                let es : psi ≡ Ψ_at K P e = ev.answers.Ψ_is ∙ ap (λ (x : View). sha256 (Ψin K x (κ K P) P.p4)) (sym view_kept) in
+                let em : M ≡ K.M = sym so.executions in
+                let ec : M - τ ≡ kept_count K = omega (arith, so.executions, so.openings) in
+                let ep : e - r ≡ place P.p2 e = sym place_is in
+                let both = stored-kept (hash_at K P e) (Π_at K P e) (Ψ_at K P e) x kept_p inside (omega (arith, place_is, place_below, ec))
+                (ap (λ (l : List ℕ). length l) (sym eh) ∙ lh) (ap (λ (l : List ℕ). length l) (sym ei) ∙ li) (ap (λ (l : List ℕ). length l) (sym es) ∙ ls) (long_by x lx) in
+                let is : put (put (put x (32 * e) 32 h) (32 * M + 32 * (e - r)) 32 pi) (32 * M + 32 * (M - τ) + 32 * (e - r)) 32 psi
+                ≡ put (put (put x (32 * e) 32 (hash_at K P e)) (32 * K.M + 32 * place P.p2 e) 32 (Π_at K P e)) (32 * K.M + 32 * kept_count K + 32 * place P.p2 e) 32 (Ψ_at K P e) =
+                λ i. put (put (put x (32 * e) 32 (eh i)) (32 * em i + 32 * ep i) 32 (ei i)) (32 * em i + 32 * ec i + 32 * ep i) 32 (es i) in
                 record {
-                  code_is = λ _. code_kept;
-                  h_is = ev.h_is ∙ ap (λ (x : View). sha256 (hin K x)) (sym view_kept);
-                  Π_is = λ _. ev.answers.Π_is ∙ ap (λ (x : View). sha256 (Πin K x (κ K P))) (sym view_kept);
-                  Ψ_is = λ _. ev.answers.Ψ_is ∙ ap (λ (x : View). sha256 (Ψin K x (κ K P) P.p4)) (sym view_kept);
                   next = record {
                     rank_is = count_miss e (opened P.p2) kept_p ∙ here.rank_is;
                     at_is = sym (ends ∙ at-kept K P e at (16 * D + 32 + 4 * (m + 1 + last_count m N hid)) (sym here.at_is) (sym size_is));
                   };
+                  stored = subst (λ (l : List ℕ). Stored K.M (kept_count K) e (place P.p2 e) (opened P.p2 e) (hash_at K P e) (Π_at K P e) (Ψ_at K P e) x l) (sym is) both.0;
+                  lists_are = is ∙ both.1;
                 }

@@ -44,21 +44,12 @@ put_next x ys at n i k e w h =
     regroup a b c d = simp append_assoc
 
 -- of an opened execution only h(e) is stored
-pub placed_same : (M c e p : ℕ) (t : Bool) (h x : List ℕ) {pi psi pi' psi' : List ℕ} → (t ≡ false → pi ≡ pi') → (t ≡ false → psi ≡ psi')
-    → placed M c e p t h pi psi x ≡ placed M c e p t h pi' psi' x
-placed_same M c e p true h x a b = refl
-placed_same M c e p false h x a b = λ i. placed M c e p false h (a refl i) (b refl i) x
-
-pub stored-opened : {M c e p : ℕ} {t : Bool} (h pi psi x : List ℕ) {y : List ℕ} → t ≡ true → e < M → length h ≡ 32 → length x ≡ 32 * M + 64 * c → p ≤ c → y ≡ h
-    → Stored M c e p t h pi psi x (put x (32 * e) (32 * e + 32 - 32 * e) y) × (put x (32 * e) (32 * e + 32 - 32 * e) y ≡ placed M c e p t h pi psi x)
-stored-opened {M} {c} {e} {p} {t} h pi psi x {y} is below lh lx lp ey =
-    let n : 32 * e + 32 - 32 * e ≡ 32 = omega arith in
-    let eq : put x (32 * e) (32 * e + 32 - 32 * e) y ≡ placed M c e p t h pi psi x =
-    (λ i. put x (32 * e) (n i) (ey i)) ∙ ap (λ (b : Bool). placed M c e p b h pi psi x) (sym is) in (
-      subst (λ (z : List ℕ). Stored M c e p t h pi psi x z) (sym eq)
-          (subst (λ (b : Bool). Stored M c e p b h pi psi x (placed M c e p b h pi psi x)) (sym is) made),
-      eq,
-    )
+pub stored-opened : {M c e p : ℕ} {t : Bool} (h pi psi x : List ℕ) → t ≡ true → e < M → length h ≡ 32 → length x ≡ 32 * M + 64 * c → p ≤ c
+    → Stored M c e p t h pi psi x (put x (32 * e) 32 h) × (put x (32 * e) 32 h ≡ placed M c e p t h pi psi x)
+stored-opened {M} {c} {e} {p} {t} h pi psi x is below lh lx lp = (
+  subst (λ (b : Bool). Stored M c e p b h pi psi x (put x (32 * e) 32 h)) (sym is) made,
+  ap (λ (b : Bool). placed M c e p b h pi psi x) (sym is),
+)
   where
     same : (i : ℕ) → 32 * M ≤ i → part (put x (32 * e) 32 h) i (32 * p + 0) ≡ part x i (32 * p) ++ []
     same i l =
@@ -75,25 +66,14 @@ stored-opened {M} {c} {e} {p} {t} h pi psi x {y} is below lh lx lp ey =
         }
 
 -- a kept one: all three
-pub stored-kept : {M c e p : ℕ} {t : Bool} (h pi psi x : List ℕ) {y z w : List ℕ} → t ≡ false → e < M → p < c → length h ≡ 32 → length pi ≡ 32 → length psi ≡ 32
-    → length x ≡ 32 * M + 64 * c → y ≡ h → z ≡ pi → w ≡ psi
-    → (a : List ℕ)
-    → a ≡ put (put (put x (32 * e) (32 * e + 32 - 32 * e) y) (32 * M + 32 * p) (32 * M + 32 * p + 32 - (32 * M + 32 * p)) z) (32 * M + 32 * p + 32 * c)
-    (32 * M + 32 * p + 32 * c + 32 - (32 * M + 32 * p + 32 * c)) w
-    → Stored M c e p t h pi psi x a × (a ≡ placed M c e p t h pi psi x)
-stored-kept {M} {c} {e} {p} {t} h pi psi x {y} {z} {w} is below lp lh li ls lx ey ez ew a is-a =
-    let n1 : 32 * e + 32 - 32 * e ≡ 32 = omega arith in
-    let n2 : 32 * M + 32 * p + 32 - (32 * M + 32 * p) ≡ 32 = omega arith in
-    let at : 32 * M + 32 * p + 32 * c ≡ 32 * M + 32 * c + 32 * p = omega arith in
-    let n3 : 32 * M + 32 * p + 32 * c + 32 - (32 * M + 32 * p + 32 * c) ≡ 32 = omega arith in
-    let eq : a ≡ placed M c e p t h pi psi x =
-    is-a
-    ∙ ((λ i. put (put (put x (32 * e) (n1 i) (ey i)) (32 * M + 32 * p) (n2 i) (ez i)) (at i) (n3 i) (ew i))
-    ∙ ap (λ (b : Bool). placed M c e p b h pi psi x) (sym is)) in (
-      subst (λ (l : List ℕ). Stored M c e p t h pi psi x l) (sym eq)
-          (subst (λ (b : Bool). Stored M c e p b h pi psi x (placed M c e p b h pi psi x)) (sym is) made),
-      eq,
-    )
+pub stored-kept : {M c e p : ℕ} {t : Bool} (h pi psi x : List ℕ) → t ≡ false → e < M → p < c → length h ≡ 32 → length pi ≡ 32 → length psi ≡ 32
+    → length x ≡ 32 * M + 64 * c
+    → Stored M c e p t h pi psi x (put (put (put x (32 * e) 32 h) (32 * M + 32 * p) 32 pi) (32 * M + 32 * c + 32 * p) 32 psi)
+    × (put (put (put x (32 * e) 32 h) (32 * M + 32 * p) 32 pi) (32 * M + 32 * c + 32 * p) 32 psi ≡ placed M c e p t h pi psi x)
+stored-kept {M} {c} {e} {p} {t} h pi psi x is below lp lh li ls lx = (
+  subst (λ (b : Bool). Stored M c e p b h pi psi x third) (sym is) made,
+  ap (λ (b : Bool). placed M c e p b h pi psi x) (sym is),
+)
   where
     one : List ℕ
     one = put x (32 * e) 32 h

@@ -1,26 +1,35 @@
-// One execution of a transcript whose form is good: its refusal, its digests, and where the next one stands.
+// One execution of a transcript whose form is good: its refusal, its digests into the lists, and where the next one stands.
 
-ghost use Rattle.std.specs.Prelude.{◌≡◌, true, false, suc, ◌+◌, ◌*◌, ◌-◌, ◌<◌, ◌≤◌, eqb, length, get_or};
+ghost use Rattle.std.specs.Prelude.{◌≡◌, true, false, suc, ◌+◌, ◌*◌, ◌-◌, ◌<◌, ◌≤◌, eqb, length, get_or, IfOk, OnErr};
 ghost use Rattle.lists.specs.Index.{pick, same};
 ghost use Rattle.lists.specs.Check.{first};
-ghost use Rattle.refusals.specs.Number.{number_of};
+ghost use Rattle.refusals.specs.Refused.{verdict_of};
 ghost use Rattle.protocol.specs.Key.{Key};
 ghost use Rattle.protocol.specs.Prover.{opened};
 ghost use Rattle.protocol.specs.Transcript.{Parts};
-ghost use Rattle.walk.specs.Walk.{Within, Standing, Stood, Reached, Stepped, kept_tests};
+ghost use Rattle.protocol.specs.Judge.{execution_checks};
+ghost use Rattle.walk.specs.Lists.{lists_size};
+ghost use Rattle.walk.specs.Walk.{Reached, Stepped, checks_at, kept_tests, put};
+ghost use Rattle.walk.specs.Runs.{Stands};
 
-use execution::prepare;
-use refusals::{OMEGA, OUTPUT_SUM};
+use crate::Run;
+use execution::{Dealing, prepare};
+use refusals::Refusal;
 
-// What the judge computes of an execution, of an opened one only h; rank and place of the next one.
+// Where an execution stands: how many before it are opened, and where its reply begins in part 7.
 #[derive(Clone, Copy)]
-pub struct Step {
-    pub code: u32,
-    pub h: [u8; 32],
-    pub pi: [u8; 32],
-    pub psi: [u8; 32],
+pub struct Place {
     pub rank: usize,
     pub at: usize,
+}
+
+// A digest to its place in the lists.
+fn put_digest(digest: &[u8; 32], at: usize, lists: &mut [u8])
+    requires { at + 32 ≤ length lists.old }
+    ensures put { lists.new ≡ put lists.old at 32 digest.now }
+    ensures lists_len_unchanged { length lists.new ≡ length lists.old }
+{
+    lists[at..at + 32].copy_from_slice(digest);
 }
 
 // The hidden party, counted from 0, of the kept execution at a place.
@@ -36,188 +45,129 @@ fn omega_good(parties: usize, hidden: usize, given: &[u8], omega: &[u8]) -> bool
     requires { hidden < parties }
     ensures { result ≡ pick (eqb (suc hidden) parties) true (same given.now omega.now) }
 {
-    if hidden + 1 == parties {
-        return true;
-    }
-    bytes4::same_bytes(given, omega)
+    hidden + 1 == parties || bytes4::same_bytes(given, omega)
 }
 
-// The refusal of a kept execution, or 0.
-fn kept_code(good: bool, zero: bool) -> u32
-    ensures { result ≡ number_of (first (kept_tests good zero)) }
+// Ω and the sum of a kept execution are right.
+#[tactic(auto, unfolding(lists::specs::Check::first))]
+fn check_kept(good: bool, zero: bool) -> Result<(), Refusal>
+    ensures { verdict_of result ≡ first (kept_tests good zero) }
 {
     if !good {
-        return OMEGA;
+        return Err(Refusal::Omega);
     }
     if !zero {
-        return OUTPUT_SUM;
+        return Err(Refusal::OutputSum);
     }
-    0
+    Ok(())
 }
 
 // An execution that is opened by master seed.
-fn opened_round(
-    q: u32,
-    n: usize,
-    m: usize,
-    parties: usize,
-    executions: usize,
-    openings: usize,
-    depth: usize,
-    e: usize,
-    rank: usize,
-    at: usize,
-    entries: &[u32],
-    p2: &[u8],
-    p3: &[u8],
-    p4: &[u8],
-    p6: &[u8],
-    p7: &[u8],
-    work: &mut [u32],
-) -> Step
-    requires within { Within q n m parties executions openings depth }
-    requires stood { Stood q n m parties executions openings depth entries.now p2.now p3.now p4.now p6.now p7.now }
-    requires reached { (K : Key) (P : Parts) → Standing q n m parties executions openings depth entries.now p2.now p3.now p4.now p6.now p7.now K P → Reached e rank at K P }
-    requires e_lt_executions { e < executions }
-    requires e_opened { opened p2.now e ≡ true }
-    requires p3_len { length p3.now ≡ 16 * openings + 32 * (executions - openings) + 32 }
-    requires parties_in_bounds { 3 * m * parties ≤ length work.old }
-    ensures stepped { (K : Key) (P : Parts) → Standing q n m parties executions openings depth entries.now p2.now p3.now p4.now p6.now p7.now K P → Stepped K P e result.code result.h result.pi result.psi result.rank result.at }
+fn opened_round(run: Run, e: usize, here: Place, lists: &mut [u8], work: &mut [u32]) -> Place
+    requires reached { (K : Key) (P : Parts) → Stands run K P → Reached e here.rank here.at K P }
+    requires e_lt_executions { e < run.executions }
+    requires e_opened { opened run.parts.p2.now e ≡ true }
+    requires lists_long { length lists.old ≡ lists_size run.executions (run.executions - run.openings) }
+    requires work_long { 3 * run.statement.m * run.statement.parties ≤ length work.old }
+    ensures stepped { (K : Key) (P : Parts) → Stands run.entry K P → Stepped K P e result.rank result.at lists.old lists.new }
+    ensures lists_len_unchanged { length lists.new ≡ length lists.old }
     ensures work_len_unchanged { length work.new ≡ length work.old }
 {
-    let from = 16 * rank;
-    let to = from + 16;
-    let mut leaves = [0u8; 512];
-    let size = 16 * parties;
+    let statement = run.statement;
+    let dealing = Dealing {
+        modulus: statement.modulus,
+        m: statement.m,
+        parties: statement.parties,
+        depth: statement.depth,
+    };
+    let from = 16 * here.rank;
+    let master = run.parts.p3[from..from + 16].try_into().unwrap();
+    let mut leaves = [0; 512];
     let h = views::opened::opened_hash(
-        q,
-        m,
-        parties,
-        depth,
+        dealing,
         e,
-        &p3[from..to],
-        &mut leaves[..size],
+        master,
+        &mut leaves[..16 * statement.parties],
         work,
     );
-    Step {
-        code: 0,
-        h,
-        pi: h,
-        psi: h,
-        rank: rank + 1,
-        at,
+    put_digest(&h, 32 * e, lists);
+    Place {
+        rank: here.rank + 1,
+        at: here.at,
     }
 }
 
 // A kept execution.
 fn kept_round(
-    q: u32,
-    n: usize,
-    m: usize,
-    parties: usize,
-    executions: usize,
-    openings: usize,
-    depth: usize,
+    run: Run,
     e: usize,
-    rank: usize,
-    at: usize,
-    entries: &[u32],
-    p2: &[u8],
-    p3: &[u8],
-    p4: &[u8],
-    p6: &[u8],
-    p7: &[u8],
+    here: Place,
+    lists: &mut [u8],
     work: &mut [u32],
-) -> Step
-    requires within { Within q n m parties executions openings depth }
-    requires stood { Stood q n m parties executions openings depth entries.now p2.now p3.now p4.now p6.now p7.now }
-    requires reached { (K : Key) (P : Parts) → Standing q n m parties executions openings depth entries.now p2.now p3.now p4.now p6.now p7.now K P → Reached e rank at K P }
-    requires e_lt_executions { e < executions }
-    requires e_kept { opened p2.now e ≡ false }
-    requires p3_len { length p3.now ≡ 16 * openings + 32 * (executions - openings) + 32 }
-    requires p4_len { length p4.now ≡ 16 }
-    requires m_in_bounds { n * (m + 1) ≤ length entries.now }
-    requires parties_in_bounds { 3 * m * parties ≤ length work.old }
-    ensures stepped { (K : Key) (P : Parts) → Standing q n m parties executions openings depth entries.now p2.now p3.now p4.now p6.now p7.now K P → Stepped K P e result.code result.h result.pi result.psi result.rank result.at }
+) -> Result<Place, Refusal>
+    requires reached { (K : Key) (P : Parts) → Stands run K P → Reached e here.rank here.at K P }
+    requires e_lt_executions { e < run.executions }
+    requires e_kept { opened run.parts.p2.now e ≡ false }
+    requires lists_long { length lists.old ≡ lists_size run.executions (run.executions - run.openings) }
+    requires work_long { 3 * run.statement.m * run.statement.parties ≤ length work.old }
+    ensures verdict { (K : Key) (P : Parts) → Stands run.entry K P → verdict_of result ≡ first (execution_checks K P e) }
+    ensures stepped { IfOk result (λ next. (K : Key) (P : Parts) → Stands run.entry K P → Stepped K P e next.rank next.at lists.old lists.new) }
+    ensures refused { OnErr result (lists.new ≡ lists.old) }
+    ensures lists_len_unchanged { length lists.new ≡ length lists.old }
     ensures work_len_unchanged { length work.new ≡ length work.old }
 {
-    let place = e - rank;
-    let hidden = hidden_party(p6, place);
-    let end = at + prepare::reply_length(m, parties, depth, hidden);
-    let mut leaves = [0u8; 512];
-    let size = 16 * parties;
+    let statement = run.statement;
+    let parties = statement.parties;
+    let place = e - here.rank;
+    let hidden = hidden_party(run.parts.p6, place);
+    let end = here.at + prepare::reply_length(statement.m, parties, statement.depth, hidden);
+    let p7 = run.parts.p7;
+    let kappa = p7.first_chunk().unwrap();
+    let seed = run.parts.p4.try_into().unwrap();
+    let mut leaves = [0; 512];
     let v = kept::kept_execution(
-        q,
-        n,
-        m,
-        parties,
-        depth,
+        statement,
         hidden,
         e,
-        &p7[at..end],
-        &p7[..16],
-        p4,
-        entries,
-        &mut leaves[..size],
+        &p7[here.at..end],
+        kappa,
+        seed,
+        &mut leaves[..16 * parties],
         work,
     );
-    let from = 16 * openings + 32 * place;
-    let to = from + 32;
-    let omega = v.omega;
-    let good = omega_good(parties, hidden, &p3[from..to], &omega);
-    let code = kept_code(good, v.zero);
-    let h = v.h;
-    let pi = v.pi;
-    let psi = v.psi;
-    Step {
-        code,
-        h,
-        pi,
-        psi,
-        rank,
+    let from = 16 * run.openings + 32 * place;
+    let good = omega_good(parties, hidden, &run.parts.p3[from..from + 32], &v.omega);
+    check_kept(good, v.zero)?;
+    let kept = run.executions - run.openings;
+    put_digest(&v.h, 32 * e, lists);
+    put_digest(&v.pi, 32 * run.executions + 32 * place, lists);
+    put_digest(&v.psi, 32 * run.executions + 32 * kept + 32 * place, lists);
+    Ok(Place {
+        rank: here.rank,
         at: end,
-    }
+    })
 }
 
 // Execution e.
 pub fn round(
-    q: u32,
-    n: usize,
-    m: usize,
-    parties: usize,
-    executions: usize,
-    openings: usize,
-    depth: usize,
+    run: Run,
     e: usize,
-    rank: usize,
-    at: usize,
-    entries: &[u32],
-    p2: &[u8],
-    p3: &[u8],
-    p4: &[u8],
-    p6: &[u8],
-    p7: &[u8],
+    here: Place,
+    lists: &mut [u8],
     work: &mut [u32],
-) -> Step
-    requires within { Within q n m parties executions openings depth }
-    requires stood { Stood q n m parties executions openings depth entries.now p2.now p3.now p4.now p6.now p7.now }
-    requires reached { (K : Key) (P : Parts) → Standing q n m parties executions openings depth entries.now p2.now p3.now p4.now p6.now p7.now K P → Reached e rank at K P }
-    requires e_lt_executions { e < executions }
-    requires p3_len { length p3.now ≡ 16 * openings + 32 * (executions - openings) + 32 }
-    requires p4_len { length p4.now ≡ 16 }
-    requires m_in_bounds { n * (m + 1) ≤ length entries.now }
-    requires parties_in_bounds { 3 * m * parties ≤ length work.old }
-    ensures stepped { (K : Key) (P : Parts) → Standing q n m parties executions openings depth entries.now p2.now p3.now p4.now p6.now p7.now K P → Stepped K P e result.code result.h result.pi result.psi result.rank result.at }
+) -> Result<Place, Refusal>
+    requires reached { (K : Key) (P : Parts) → Stands run K P → Reached e here.rank here.at K P }
+    requires e_lt_executions { e < run.executions }
+    requires lists_long { length lists.old ≡ lists_size run.executions (run.executions - run.openings) }
+    requires work_long { 3 * run.statement.m * run.statement.parties ≤ length work.old }
+    ensures verdict { (K : Key) (P : Parts) → Stands run.entry K P → verdict_of result ≡ first (checks_at K P e) }
+    ensures stepped { IfOk result (λ next. (K : Key) (P : Parts) → Stands run.entry K P → Stepped K P e next.rank next.at lists.old lists.new) }
+    ensures refused { OnErr result (lists.new ≡ lists.old) }
+    ensures lists_len_unchanged { length lists.new ≡ length lists.old }
     ensures work_len_unchanged { length work.new ≡ length work.old }
 {
-    if forms::is_opened(p2, e) {
-        return opened_round(
-            q, n, m, parties, executions, openings, depth, e, rank, at, entries, p2, p3, p4, p6,
-            p7, work,
-        );
+    if forms::is_opened(run.parts.p2, e) {
+        return Ok(opened_round(run, e, here, lists, work));
     }
-    kept_round(
-        q, n, m, parties, executions, openings, depth, e, rank, at, entries, p2, p3, p4, p6, p7,
-        work,
-    )
+    kept_round(run, e, here, lists, work)
 }

@@ -1,41 +1,44 @@
-use mathlib.Core.Path.{◌≡◌, refl, sym, ap, ◌∙◌}
-use native.Mathlib.Omega.{arith}
-use lib.ListN.{length, take, length-set}
-use lib.Seq.{take_all}
-use Rattle.aes.specs.Fips197.{words, key_expansion}
-use Rattle.aes.proofs.Laws.{copied, four-words}
-use borrow.Author.Rules.{rules}
+use Rattle.std.proofs.Common.{◌≡◌, sym, ◌∙◌, arith, length, length-append, ap, ◌+◌, ◌*◌, ◌-◌}
+use Rattle.std.proofs.Math.Seq.{take_all}
+use Rattle.aes.specs.Fips197.{word, xor_word, key_expansion}
+use Rattle.aes.proofs.Laws.{key_stored, stored_long, word_stored, next_word, recounted, temp_is}
 use Rattle.aes.proofs.expand.Goals as goal
 
-pub loop-i-init : goal.loop-i-init
-loop-i-init c = (search rules, refl, refl)
-
-pub loop-i-preserved : goal.loop-i-preserved
-loop-i-preserved c =
-    let w = c.loop-i.w in
-    let key = c.args.key in
-    let key_long : length key ≡ 16 = search rules in
-    (search rules, simp length-set c.loop-i.invariant.1, copied w key c.loop-i.i (omega arith) (omega arith) c.loop-i.invariant.2)
-
 pub loop-r-init : goal.loop-r-init
-unfolding words
-loop-r-init c = (search rules, c.loop-i.invariant.1, refl)
+loop-r-init c =
+    let first = c.copy_from_slice in
+    record {
+      long = simp length-append (omega (arith, first.ensures.len));
+      so_far = key_stored c.args.key first.new.self _ first.ensures.after first.ensures.len;
+      last = c.word-temp.ensures;
+    }
 
-pub loop-r-preserved : goal.loop-r-preserved
-loop-r-preserved c =
-    let key = take 16 c.loop-i.w in
-    let a = c.turned_word.ensures.next_word key c.loop-r.invariant.2 in
-    let b = c.plain_word.ensures.next_word key a in
-    let d = c.plain_word-in-loop-r.ensures.next_word key b in
-    (search rules, c.plain_word-in-loop-r-2.ensures.w_len_2, four-words _ key c.loop-r.r (c.plain_word-in-loop-r-2.ensures.next_word key d))
+pub loop-k-preserved : goal.loop-k-preserved
+loop-k-preserved c =
+    let r = c.loop-r.r in
+    let k = c.loop-k.k in
+    let n = 4 * r + k in
+    let w = c.loop-k.w in
+    let so = c.loop-k.invariant in
+    let next = c.copy_from_slice-in-loop-k in
+    let long : length w ≡ 176 = so.long in
+    let four : length next.new.self ≡ 4 = omega (arith, next.ensures.len) in
+    record {
+      long = stored_long w next.new.self (16 + 4 * n) (16 + 4 * n + 4 - (16 + 4 * n)) (omega arith) (omega arith) ∙ long;
+      so_far =
+          recounted _ c.args.key (n + 1) (4 * r + (k + 1)) (omega arith)
+          (next_word w c.args.key next.new.self _ n (omega arith) so.so_far
+          (next.ensures.after
+          ∙ c.xor_word-temp.ensures
+          ∙ ap (λ t. xor_word t c.loop-k.temp) c.word.ensures
+          ∙ ap (xor_word (word w n)) (temp_is w c.loop-k.temp r k c.loop-k-test.true so.first so.later)));
+      first = λ start. absurd (omega arith);
+      later = λ past. sym next.ensures.after ∙ word_stored w next.new.self _ n (4 * r + (k + 1) + 3) (omega arith) four (omega arith);
+    }
 
 pub returns : goal.returns
 unfolding key_expansion
 returns c =
-    let key = c.args.key in
-    let key_long : length key ≡ 16 = search rules in
     let all : c.loop-r.r ≡ 10 = omega arith in
-    let copy : c.loop-i.i ≡ 16 = omega arith in
-    let front = rw copy at c.loop-i.invariant.2 in
-    let whole = rw all at c.loop-r.invariant.2 in
-    sym (take_all 176 c.loop-r.w (omega arith)) ∙ whole ∙ ap (words 40) (front ∙ take_all 16 key (omega arith))
+    let whole = rw all at c.loop-r.invariant.so_far in
+    sym (take_all 176 c.loop-r.w (omega arith)) ∙ whole

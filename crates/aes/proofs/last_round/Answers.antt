@@ -1,13 +1,8 @@
-use mathlib.Core.Path.{◌≡◌, refl, sym, ◌∙◌}
-use native.Mathlib.Omega.{arith}
-use lib.ListN.{get_or}
-use Rattle.lists.specs.Tab.{start, more, done}
+use Rattle.std.proofs.Common.{◌≡◌, sym, ◌∙◌, arith, get_or}
+use Rattle.lists.specs.Tab.{more, done}
 use Rattle.aes.specs.Fips197.{sub_bytes, shift_rows, add_key}
 use Rattle.aes.proofs.Laws.{sub_shift_at}
 use Rattle.aes.proofs.last_round.Goals as goal
-
-pub loop-i-init : goal.loop-i-init
-loop-i-init c = start _ _ refl
 
 pub loop-i-preserved : goal.loop-i-preserved
 loop-i-preserved c =

@@ -1,5 +1,5 @@
 -- `aes_wide::counters` meets its contract: the loops write r row by row. Assumes nothing.
-use Prim.Native.Nat.{◌+◌, ◌-◌}
+use Rattle.std.proofs.Common.{◌+◌}
 use Rattle.aes_wide.specs.Wide.{counter}
 use Rattle.aes_wide.proofs.Laws.{Rows}
 use Rattle.aes_wide.proofs.counters.Given as goal
@@ -7,11 +7,5 @@ use Rattle.aes_wide.proofs.counters.Given as goal
 abbrev pub invariant-loop-l : goal.invariant-loop-l
 invariant-loop-l l = Rows l.r l.p l.l (λ b. counter (l.j + b))
 
-abbrev pub decreases-loop-l : goal.decreases-loop-l
-decreases-loop-l l = 16 - l.l
-
 abbrev pub invariant-loop-p : goal.invariant-loop-p
 invariant-loop-p l = Rows l.r l.p 0 (λ b. counter (l.j + b))
-
-abbrev pub decreases-loop-p : goal.decreases-loop-p
-decreases-loop-p l = 16 - l.p

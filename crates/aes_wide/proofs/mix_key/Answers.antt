@@ -1,13 +1,7 @@
 use Rattle.aes.specs.Fips197.{mix_columns}
 use Rattle.aes_wide.specs.Wide.{lane}
-use Rattle.aes_wide.proofs.Laws.{columns_start, column-more, column-next, columns_end, key_size}
+use Rattle.aes_wide.proofs.Laws.{columns_end, column-more, key_size}
 use Rattle.aes_wide.proofs.mix_key.Goals as goal
-
-pub loop-c-init : goal.loop-c-init
-loop-c-init c = columns_start _ _ c.requires.r_len
-
-pub loop-l-init : goal.loop-l-init
-loop-l-init c = c.loop-c.invariant
 
 pub loop-l-preserved : goal.loop-l-preserved
 loop-l-preserved c =
@@ -23,9 +17,6 @@ loop-l-preserved c =
     c.mix-in-loop-l-2.ensures
     c.mix-in-loop-l-3.ensures
     c.loop-l.invariant
-
-pub loop-c-preserved : goal.loop-c-preserved
-loop-c-preserved c = column-next c.loop-l.invariant c.loop-l-test.false
 
 pub returns : goal.returns
 returns c = columns_end c.loop-c.invariant c.loop-c-test.false (λ b. key_size c.args.w.now (mix_columns (lane c.args.s.now b)) c.args.n)

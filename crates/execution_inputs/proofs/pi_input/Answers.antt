@@ -1,54 +1,32 @@
 -- `pi_input` meets its contract. Assumes nothing.
-use mathlib.Core.Path.{sym, ◌∙◌}
-use Prim.Native.Nat.{◌-◌}
-use native.Mathlib.Omega.{arith}
-use lib.ListN.{length}
-use lib.Seq.{length-take-le}
-use Rattle.lists.specs.Written.{parts_joined}
-use Rattle.execution_inputs.proofs.Laws.{pi_label}
+use Rattle.std.proofs.Common.{◌≡◌, ◌++◌, ◌*◌, ◌≤◌, ◌<◌, List, ℕ, refl, sym, ap, ap₂, ◌+◌, ◌∙◌, arith, length}
+use Rattle.lists.specs.Tab.{tab}
+use Rattle.lists.specs.Written.{built_all, built_at, built_item, built_none}
+use Rattle.views.proofs.Laws.{stored}
+use Rattle.inputs.proofs.Laws.{within}
+use Rattle.execution_inputs.proofs.Laws.{pi_label, row_ends}
 use Rattle.execution_inputs.proofs.pi_input.Goals as goal
 
-pub slice_bounds-alphas-end-2 : goal.slice_bounds-alphas-end-2
-slice_bounds-alphas-end-2 c = sym (length-take-le (length c.args.out.now - 16) c.args.out.now (omega arith))
+pub loop-k-init : goal.loop-k-init
+unfolding tab
+loop-k-init c = record { rows = built_at (omega arith) (built_none _ _); columns = refl }
 
-pub alphas-requires-clause-limits : goal.alphas-requires-clause-limits
-alphas-requires-clause-limits c =
-    let p = c.requires in
-    p.limits
-
-pub alphas-requires-clause-reduced : goal.alphas-requires-clause-reduced
-alphas-requires-clause-reduced c =
-    let p = c.requires in
-    p.reduced
-
-pub alphas-requires-clause-m_in_bounds : goal.alphas-requires-clause-m_in_bounds
-alphas-requires-clause-m_in_bounds c =
-    let p = c.requires in
-    p.m_in_bounds
-
-pub alphas-requires-clause-parties_in_bounds : goal.alphas-requires-clause-parties_in_bounds
-alphas-requires-clause-parties_in_bounds c =
-    let p = c.requires in
-    p.parties_in_bounds
-
-pub alphas-requires-clause-m_in_bounds_2 : goal.alphas-requires-clause-m_in_bounds_2
-alphas-requires-clause-m_in_bounds_2 c =
-    let p = c.requires in
-    p.m_in_bounds_2
-
-pub alphas-requires-clause-out_len : goal.alphas-requires-clause-out_len
-alphas-requires-clause-out_len c =
+pub loop-k-preserved : goal.loop-k-preserved
+loop-k-preserved c =
+    let l = c.loop-k in
     let a = c.args in
-    let p = c.requires in
-    length-take-le (length a.out.now - 16) a.out.now (omega arith) ∙ omega (arith, p.out_len)
+    let w = 4 * a.shares.parties in
+    let turn : l.k < a.shares.m = c.loop-k-test.true in
+    let ends : w * l.k + w ≤ length l.rows = omega (arith, row_ends w a.shares.m l.k (w * l.k) refl turn, l.auto.rows, c.split_at_mut-rows.ensures.front_len) in
+    record {
+      rows = built_at (omega arith) (built_item w _ l.invariant.rows c.alpha_bytes.ensures.out_after (c.alpha_bytes.auto.out ∙ within l.rows (w * l.k) w ends));
+      columns = stored _ _ _ _ _ (omega (arith, a.shares.m_most, c.requires.sums_long, c.loop-k-test.true)) l.invariant.columns c.alpha_bytes.ensures.value;
+    }
 
 pub returns-clause-out_after : goal.returns-clause-out_after
 returns-clause-out_after c =
-    let a = c.args in
-    let n = c.alphas in
-    parts_joined a.out.now n.new.out _ (length a.out.now - 16) (n.auto.out ∙ length-take-le (length a.out.now - 16) a.out.now (omega arith)) n.ensures.out_after (c.copy.ensures ∙ c.block_of-g.ensures) ∙ pi_label _ _
-
-pub returns-clause-sums_after : goal.returns-clause-sums_after
-returns-clause-sums_after c =
-    let n = c.alphas in
-    n.ensures.sums_after
+    let l = c.loop-k in
+    let s = c.args.shares in
+    let e : l.k ≡ s.m = omega arith in
+    let all : 4 * s.parties * s.m ≡ 4 * s.parties * l.k = ap (λ x. 4 * s.parties * x) (sym e) in
+    ap₂ (λ (x y : List ℕ). x ++ y) (built_all l.invariant.rows e (omega (arith, c.split_at_mut-rows.ensures.front_len, all))) (c.copy_from_slice.ensures.after ∙ c.block_of.ensures) ∙ pi_label _ _

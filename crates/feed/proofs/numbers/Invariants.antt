@@ -1,12 +1,8 @@
--- `feed::numbers` meets its contract. The loop's invariant: t is t₀ after the first a numbers. Assumes nothing.
-use Prim.Native.Nat.{◌-◌, ◌≤◌}
-use lib.ListN.{length, take}
+-- s has been fed p, which is all but the chunks that are left.
+use Rattle.std.proofs.Common.{◌≡◌, ℕ, List, ◌++◌}
 use Rattle.sha.specs.State.{Fed}
 use Rattle.lists.specs.Bytes.{words}
 use Rattle.feed.proofs.numbers.Given as goal
 
-abbrev pub invariant-loop-a : goal.invariant-loop-a
-invariant-loop-a l = (l.a ≤ length l.xs) × Fed l.initial.t (words (take l.a l.xs)) l.t
-
-abbrev pub decreases-loop-a : goal.decreases-loop-a
-decreases-loop-a l = length l.xs - l.a
+abbrev pub invariant-loop-block : goal.invariant-loop-block
+invariant-loop-block l = (l.block-iterator.size ≡ 16) × ((p : List ℕ) × (l.xs ≡ p ++ l.block-iterator.rest.now) × Fed l.initial.s (words p) l.s)

@@ -1,16 +1,13 @@
 -- `good_hidden` makes the three tests of a hidden list. Assumes nothing.
-use mathlib.Core.Path.{sym, ◌∙◌}
-use Rattle.forms.proofs.Laws.{hidden_length, hidden_least, hidden_most, hidden_good, most_of}
+use Rattle.std.proofs.Common.{sym, ◌∙◌}
+use Rattle.forms.proofs.Laws.{hidden_length, hidden_least, hidden_last}
 use Rattle.forms.proofs.good_hidden.Goals as goal
 
-pub returns-then-hidden-k : goal.returns-then-hidden-k
-returns-then-hidden-k c = λ K of. hidden_length K _ (λ e. c.if-hidden-k.true (e ∙ rw (of.executions_is, of.τ_is)))
+pub returns-then-hidden-kept : goal.returns-then-hidden-kept
+returns-then-hidden-kept c = λ K ek eN. hidden_length K _ (λ e. c.if-hidden-kept.true (e ∙ ek))
 
-pub returns-then-not-positive : goal.returns-then-not-positive
-returns-then-not-positive c = λ K of. hidden_least K _ (sym c.positive.ensures ∙ c.if-not-positive.true)
+pub returns-then-positive : goal.returns-then-positive
+returns-then-positive c = λ K ek eN. hidden_last K _ eN (c.if-hidden-kept.false ∙ sym ek) (sym c.positive.ensures ∙ c.if-positive.true) c.at_most.ensures
 
-pub returns-then-not-at_most : goal.returns-then-not-at_most
-returns-then-not-at_most c = λ K of. hidden_most K _ (most_of c.args.hidden.now _ _ of.parties_is c.at_most.ensures ∙ c.if-not-at_most.true)
-
-pub returns : goal.returns
-returns c = λ K of. hidden_good K _ (c.if-hidden-k.false ∙ rw (of.executions_is, of.τ_is)) (sym c.positive.ensures ∙ c.if-not-positive.false) (most_of c.args.hidden.now _ _ of.parties_is c.at_most.ensures ∙ c.if-not-at_most.false)
+pub returns-else-positive : goal.returns-else-positive
+returns-else-positive c = λ K ek eN. c.if-positive.false ∙ hidden_least K _ (sym c.positive.ensures ∙ c.if-positive.false)

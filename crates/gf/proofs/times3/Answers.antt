@@ -1,6 +1,5 @@
 -- `gf::times3` meets its contract, by a test over all bytes. Assumes nothing.
-use borrow.Author.Rules.{rules}
-use lib.Bits.{bit_xor}
+use Rattle.std.proofs.Common.{rules, bit_xor}
 use Rattle.lists.specs.Test.{same}
 use Rattle.gf.specs.Field.{product, remainder, gmul}
 use Rattle.gf.proofs.times3.Goals as goal

@@ -1,27 +1,24 @@
 -- `gamma_inputs` meets its contract. Assumes nothing.
-use mathlib.Core.Path.{sym, ◌∙◌}
-use Prim.Native.Nat.{◌*◌, ◌-◌}
-use native.Mathlib.Omega.{arith}
-use lib.Seq.{length-take-le}
-use Rattle.lists.specs.Written.{parts_joined}
-use Rattle.inputs.proofs.Laws.{gamma_all}
+use Rattle.std.proofs.Common.{rules, ◌*◌, ◌-◌, ◌∙◌, ◌≡◌, arith}
+use Rattle.lists.specs.Written.{built_at, built_item, built_none}
+use Rattle.inputs.proofs.Laws.{other_in, last_in, built_last, within}
 use Rattle.inputs.proofs.gamma_inputs.Goals as goal
 
-pub slice_bounds-other_gammas-end-2 : goal.slice_bounds-other_gammas-end-2
-slice_bounds-other_gammas-end-2 c = sym (length-take-le (32 * (c.args.parties - 1)) c.args.out.now (omega arith))
+pub loop-i-init : goal.loop-i-init
+loop-i-init c = built_none _ _
 
-pub other_gammas-requires-clause-count_in_bounds : goal.other_gammas-requires-clause-count_in_bounds
-other_gammas-requires-clause-count_in_bounds c = omega arith
-
-pub other_gammas-requires-clause-out_len : goal.other_gammas-requires-clause-out_len
-other_gammas-requires-clause-out_len c =
-    let a = c.args in
-    length-take-le (32 * (a.parties - 1)) a.out.now (omega arith)
+pub loop-i-preserved : goal.loop-i-preserved
+loop-i-preserved c =
+    let l = c.loop-i in
+    let a = c.args.lists in
+    built_at (omega arith)
+    (built_item 32 _ l.invariant (c.gamma_input.ensures ∙ other_in a.m a.parties c.args.execution l.i a.leaves.now a.work.now (search rules) (omega arith))
+    (c.gamma_input.auto.out ∙ within l.out (32 * l.i) 32 (omega arith)))
 
 pub returns : goal.returns
 returns c =
-    let a = c.args in
-    let n = c.other_gammas in
-    parts_joined a.out.now n.new.out _ (32 * (a.parties - 1)) (n.auto.out ∙ length-take-le (32 * (a.parties - 1)) a.out.now (omega arith)) n.ensures
-    c.last_gamma.ensures
-    ∙ gamma_all a.m a.parties a.execution a.leaves.now a.work.now c.requires.bounded.least
+    let l = c.loop-i in
+    let a = c.args.lists in
+    let e : l.i ≡ a.parties - 1 = omega arith in
+    built_last (rw e at l.invariant) (omega (arith, a.parties_least)) l.auto.out (omega arith) (search rules)
+    (c.gamma_input-2.ensures ∙ last_in a.m a.parties c.args.execution a.leaves.now a.work.now (search rules) a.parties_least)

@@ -1,28 +1,28 @@
 -- `depth` by its five cases. Assumes nothing.
-use native.Mathlib.Omega.{arith}
-use Rattle.key.proofs.Laws.{fifth}
+use Rattle.std.proofs.Common.{◌≡◌, arith, rules}
 use Rattle.lists.specs.Index.{count}
 use Rattle.key.specs.KeyLaws.{depth_of}
+use Rattle.key.proofs.Laws.{fifth}
 use Rattle.key.proofs.depth.Goals as goal
 
-pub returns-then-parties-eq2 : goal.returns-then-parties-eq2
+pub returns-in-2 : goal.returns-in-2
 unfolding count
-returns-then-parties-eq2 c = record { most = omega arith; power = rw c.if-parties-eq2.true; is = depth_of 1 _ (rw c.if-parties-eq2.true) }
+returns-in-2 c = record { most = omega arith; power = rw c.in-2.is; is = depth_of 1 _ (rw c.in-2.is) }
 
-pub returns-then-parties-eq4 : goal.returns-then-parties-eq4
+pub returns-in-4 : goal.returns-in-4
 unfolding count
-returns-then-parties-eq4 c = record { most = omega arith; power = rw c.if-parties-eq4.true; is = depth_of 2 _ (rw c.if-parties-eq4.true) }
+returns-in-4 c = record { most = omega arith; power = rw c.in-4.is; is = depth_of 2 _ (rw c.in-4.is) }
 
-pub returns-then-parties-eq8 : goal.returns-then-parties-eq8
+pub returns-in-8 : goal.returns-in-8
 unfolding count
-returns-then-parties-eq8 c = record { most = omega arith; power = rw c.if-parties-eq8.true; is = depth_of 3 _ (rw c.if-parties-eq8.true) }
+returns-in-8 c = record { most = omega arith; power = rw c.in-8.is; is = depth_of 3 _ (rw c.in-8.is) }
 
-pub returns-then-parties-eq16 : goal.returns-then-parties-eq16
+pub returns-in-16 : goal.returns-in-16
 unfolding count
-returns-then-parties-eq16 c = record { most = omega arith; power = rw c.if-parties-eq16.true; is = depth_of 4 _ (rw c.if-parties-eq16.true) }
+returns-in-16 c = record { most = omega arith; power = rw c.in-16.is; is = depth_of 4 _ (rw c.in-16.is) }
 
-pub returns : goal.returns
+pub returns-in_default : goal.returns-in_default
 unfolding count
-returns c =
-    let e = fifth c.requires c.if-parties-eq2.false c.if-parties-eq4.false c.if-parties-eq8.false c.if-parties-eq16.false in
+returns-in_default c =
+    let e : c.args.parties ≡ 32 = fifth c.requires (search rules) (search rules) (search rules) (search rules) in
     record { most = omega arith; power = rw e; is = depth_of 5 _ (rw e) }

@@ -1,7 +1,7 @@
 -- `masters` copies the opened executions' seeds. Invariant: those of the executions before x stand in front. Assumes nothing.
 use mathlib.Core.Path.{◌≡◌}
 use mathlib.Core.List.{[]}
-use Prim.Native.Nat.{◌*◌, ◌-◌, ◌≤◌}
+use Prim.Native.Nat.{◌*◌}
 use lib.ListN.{length}
 use Rattle.lists.specs.Written.{Built}
 use Rattle.lists.specs.Index.{count, pick, part}
@@ -9,7 +9,6 @@ use Rattle.protocol.specs.Prover.{opened}
 use Rattle.message_3.proofs.masters.Given as goal
 
 abbrev pub invariant-loop-x : goal.invariant-loop-x
-invariant-loop-x l = (l.x ≤ l.executions) × (l.at ≡ 16 * count l.x (opened l.e)) × (length l.out ≡ length l.initial.out) × Built (λ j. pick (opened l.e j) (part l.seeds (16 * j) 16) []) l.x l.at l.initial.out l.out
-
-abbrev pub decreases-loop-x : goal.decreases-loop-x
-decreases-loop-x l = l.executions - l.x
+invariant-loop-x l =
+    (l.at ≡ 16 * count l.x (opened l.materials.e.now)) × (length l.out ≡ length l.initial.out)
+    × Built (λ j. pick (opened l.materials.e.now j) (part l.materials.seeds.now (16 * j) 16) []) l.x l.at l.initial.out l.out

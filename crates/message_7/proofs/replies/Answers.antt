@@ -1,111 +1,80 @@
-use mathlib.Core.Path.{◌≡◌, refl, sym, ◌∙◌, ap}
-use mathlib.Core.Bool.{false}
-use Prim.Native.Nat.{◌+◌}
-use native.Mathlib.Omega.{arith}
+use Rattle.std.proofs.Common.{◌≡◌, ◌+◌, ◌-◌, ◌≤◌, refl, sym, ◌∙◌, ap, false, length, get_or, arith, rules}
+use Rattle.lists.specs.CatLaws.{part_length}
 use Rattle.protocol.specs.Prover.{opened}
 use Rattle.transcript.specs.Replies.{place_opened, place_kept, place-first}
-use Rattle.message_7.specs.Parts.{replies_length}
-use Rattle.message_7.proofs.Laws.{replies_none, replies_opened, replies_kept, replies_all, at_first, at-opened, at-kept, room_7, hides_at}
-use borrow.Author.Rules.{rules}
+use Rattle.message_7.specs.Parts.{reply_length, replies_length}
+use Rattle.message_7.proofs.Laws.{size_is, reply_puts, replies_none, replies_opened, replies_kept, replies_all, at_first, at-opened, at-kept, room_7}
 use Rattle.message_7.proofs.replies.Goals as goal
 
 pub loop-x-init : goal.loop-x-init
-loop-x-init c = (omega arith, omega arith, sym (place-first _), at_first _ _ _ _, refl, refl, refl, replies_none _)
+loop-x-init c = (omega arith, sym (place-first _), at_first _ _ _ _, refl, refl, replies_none _)
 
-pub put_reply-end-requires-clause-limits : goal.put_reply-end-requires-clause-limits
-put_reply-end-requires-clause-limits c =
-    let p = c.requires in
-    p.limits
+pub loop-x-preserved-then-is_opened : goal.loop-x-preserved-then-is_opened
+loop-x-preserved-then-is_opened c =
+    let l = c.loop-x in
+    let i = l.invariant in
+    let k = c.args.materials.numbers in
+    let o = sym c.is_opened.ensures ∙ c.if-is_opened.true in
+    (omega (arith, i.0), i.1 ∙ sym (place_opened _ _ o), at-opened k k.depth c.args.materials.e.now c.args.hidden.now l.x l.at i.2 o, i.3, i.4, replies_opened i.5 o)
 
-pub put_reply-end-requires-clause-depth : goal.put_reply-end-requires-clause-depth
-put_reply-end-requires-clause-depth c =
-    let p = c.requires in
-    p.depth
-
-pub put_reply-end-requires-clause-x_bound : goal.put_reply-end-requires-clause-x_bound
-put_reply-end-requires-clause-x_bound c =
+pub overflow_add-end : goal.overflow_add-end
+overflow_add-end c =
     let a = c.args in
-    let p = c.requires in
+    let k = a.materials.numbers in
     let l = c.loop-x in
-    let t = c.loop-x-test.true in
-    let o : opened a.e.now l.x ≡ false = sym c.is_opened.ensures ∙ c.if-not-is_opened.true in
-    omega (arith, t, p.limits.executions_most)
+    let E = a.materials.e.now in
+    let hidden = a.hidden.now in
+    let o : opened E l.x ≡ false = sym c.is_opened.ensures ∙ c.if-is_opened.false in
+    let size : c.reply_size.result ≡ reply_length k k.depth (get_or hidden l.kept 0 - 1) = size_is k k.deep c.reply_size.ensures.1 ∙ ap (λ x. reply_length k k.depth (x - 1)) c.hidden_at-h.ensures in
+    let room : l.at + reply_length k k.depth (get_or hidden l.kept 0 - 1) ≤ length a.out.now = room_7 k k.depth E hidden k.executions l.x l.at l.kept _ c.loop-x-test.true l.invariant.2 o l.invariant.1 c.requires.out_long in
+    omega (arith, size, room)
 
-pub put_reply-end-requires-clause-x_in_bounds : goal.put_reply-end-requires-clause-x_in_bounds
-put_reply-end-requires-clause-x_in_bounds c =
+pub slice_bounds-dealt_reply-end-in-loop-x : goal.slice_bounds-dealt_reply-end-in-loop-x
+slice_bounds-dealt_reply-end-in-loop-x c =
     let a = c.args in
-    let p = c.requires in
+    let k = a.materials.numbers in
     let l = c.loop-x in
-    let t = c.loop-x-test.true in
-    let o : opened a.e.now l.x ≡ false = sym c.is_opened.ensures ∙ c.if-not-is_opened.true in
-    omega (arith, t, p.seeds_len)
+    let E = a.materials.e.now in
+    let hidden = a.hidden.now in
+    let o : opened E l.x ≡ false = sym c.is_opened.ensures ∙ c.if-is_opened.false in
+    let size : c.reply_size.result ≡ reply_length k k.depth (get_or hidden l.kept 0 - 1) = size_is k k.deep c.reply_size.ensures.1 ∙ ap (λ x. reply_length k k.depth (x - 1)) c.hidden_at-h.ensures in
+    let room : l.at + reply_length k k.depth (get_or hidden l.kept 0 - 1) ≤ length a.out.now = room_7 k k.depth E hidden k.executions l.x l.at l.kept _ c.loop-x-test.true l.invariant.2 o l.invariant.1 c.requires.out_long in
+    omega (arith, size, room, l.invariant.4)
 
-pub put_reply-end-requires-clause-secret_len : goal.put_reply-end-requires-clause-secret_len
-put_reply-end-requires-clause-secret_len c =
-    let p = c.requires in
-    p.secret_len
-
-pub put_reply-end-requires-clause-seed_len : goal.put_reply-end-requires-clause-seed_len
-put_reply-end-requires-clause-seed_len c =
-    let p = c.requires in
-    p.seed_len
-
-pub put_reply-end-requires-clause-bound : goal.put_reply-end-requires-clause-bound
-put_reply-end-requires-clause-bound c =
+pub dealt_reply-requires-clause-out_long : goal.dealt_reply-requires-clause-out_long
+unfolding reply_length
+dealt_reply-requires-clause-out_long c =
     let a = c.args in
-    let p = c.requires in
+    let k = a.materials.numbers in
     let l = c.loop-x in
-    let t = c.loop-x-test.true in
-    let o : opened a.e.now l.x ≡ false = sym c.is_opened.ensures ∙ c.if-not-is_opened.true in
-    hides_at p.hides t o l.invariant.2
-
-pub put_reply-end-requires-clause-m_in_bounds : goal.put_reply-end-requires-clause-m_in_bounds
-put_reply-end-requires-clause-m_in_bounds c =
-    let p = c.requires in
-    p.m_in_bounds
-
-pub put_reply-end-requires-clause-leaves_len : goal.put_reply-end-requires-clause-leaves_len
-put_reply-end-requires-clause-leaves_len c =
-    let p = c.requires in
-    let l = c.loop-x in
-    l.invariant.4 ∙ p.leaves_len
-
-pub put_reply-end-requires-clause-parties_in_bounds : goal.put_reply-end-requires-clause-parties_in_bounds
-put_reply-end-requires-clause-parties_in_bounds c =
-    let a = c.args in
-    let p = c.requires in
-    let l = c.loop-x in
-    let o : opened a.e.now l.x ≡ false = sym c.is_opened.ensures ∙ c.if-not-is_opened.true in
-    omega (arith, l.invariant.5, p.parties_in_bounds)
-
-pub put_reply-end-requires-clause-kept_in_bounds : goal.put_reply-end-requires-clause-kept_in_bounds
-put_reply-end-requires-clause-kept_in_bounds c =
-    let a = c.args in
-    let p = c.requires in
-    let l = c.loop-x in
-    let t = c.loop-x-test.true in
-    let o : opened a.e.now l.x ≡ false = sym c.is_opened.ensures ∙ c.if-not-is_opened.true in
-    room_7 a.k a.depth a.e.now a.hidden.now a.k.executions l.x l.at l.kept _ t l.invariant.3 o l.invariant.2 (l.invariant.6 ∙ p.out_len)
-
-pub loop-x-preserved-then-not-is_opened : goal.loop-x-preserved-then-not-is_opened
-loop-x-preserved-then-not-is_opened c =
-    let a = c.args in
-    let l = c.loop-x in
-    let e = c.put_reply-end.ensures in
-    let o : opened a.e.now l.x ≡ false = sym c.is_opened.ensures ∙ c.if-not-is_opened.true in
-    (omega (arith, c.loop-x-test.true), omega (arith, l.invariant.1), ap (λ j. j + 1) l.invariant.2 ∙ sym (place_kept _ _ o), at-kept a.k a.depth a.e.now a.hidden.now l.x l.at _ l.kept l.invariant.3 o l.invariant.2 e.value, e.leaves_len_unchanged ∙ l.invariant.4, e.work_len_unchanged ∙ l.invariant.5, search rules, replies_kept l.invariant.7 o l.invariant.2 e.reply_puts)
+    let E = a.materials.e.now in
+    let hidden = a.hidden.now in
+    let o : opened E l.x ≡ false = sym c.is_opened.ensures ∙ c.if-is_opened.false in
+    let size : c.reply_size.result ≡ reply_length k k.depth (get_or hidden l.kept 0 - 1) = size_is k k.deep c.reply_size.ensures.1 ∙ ap (λ x. reply_length k k.depth (x - 1)) c.hidden_at-h.ensures in
+    let room : l.at + reply_length k k.depth (get_or hidden l.kept 0 - 1) ≤ length a.out.now = room_7 k k.depth E hidden k.executions l.x l.at l.kept _ c.loop-x-test.true l.invariant.2 o l.invariant.1 c.requires.out_long in
+    let n = c.reply_size.result in
+    let z : l.at + n - l.at ≡ n = omega arith in
+    rw z (part_length l.out l.at n (omega (arith, size, room, l.invariant.4))) ∙ size_is k k.deep c.reply_size.ensures.1
 
 pub loop-x-preserved : goal.loop-x-preserved
 loop-x-preserved c =
-    let l = c.loop-x in
     let a = c.args in
-    let o = sym c.is_opened.ensures ∙ c.if-not-is_opened.false in
-    (omega (arith, c.loop-x-test.true), omega (arith, l.invariant.1), l.invariant.2 ∙ sym (place_opened _ _ o), at-opened a.k a.depth a.e.now a.hidden.now l.x l.at l.invariant.3 o, l.invariant.4, l.invariant.5, l.invariant.6, replies_opened l.invariant.7 o)
+    let k = a.materials.numbers in
+    let l = c.loop-x in
+    let E = a.materials.e.now in
+    let hidden = a.hidden.now in
+    let o : opened E l.x ≡ false = sym c.is_opened.ensures ∙ c.if-is_opened.false in
+    let size : c.reply_size.result ≡ reply_length k k.depth (get_or hidden l.kept 0 - 1) = size_is k k.deep c.reply_size.ensures.1 ∙ ap (λ x. reply_length k k.depth (x - 1)) c.hidden_at-h.ensures in
+    let i = l.invariant in
+    let r = c.dealt_reply.ensures in
+    let puts = reply_puts {k = k} {x = l.x} {at = l.at} {n = c.reply_size.result} {seeds = a.materials.seeds.now} {o = l.out} {ys = c.dealt_reply.new.out} k.deep c.hidden_at-h.ensures (rw c.master.ensures at r.dealt_reply) (omega arith) in
+    (omega (arith, i.0), ap (λ j. j + 1) i.1 ∙ sym (place_kept _ _ o), at-kept k k.depth E hidden l.x l.at _ l.kept i.2 o i.1 (ap (λ n. l.at + n) size), search rules, search rules, replies_kept i.5 o i.1 puts)
 
 pub returns : goal.returns
 returns c =
     let l = c.loop-x in
     let a = c.args in
-    let e : l.x ≡ a.k.executions = omega (arith, l.invariant.0, c.loop-x-test.false) in
-    let w : l.at ≡ replies_length a.k a.depth a.e.now a.hidden.now a.k.executions = rw e at l.invariant.3 in
-    replies_all l.invariant.7 e (omega (arith, w, c.requires.out_len))
+    let k = a.materials.numbers in
+    let e : l.x ≡ k.executions = omega arith in
+    let w : l.at ≡ replies_length k k.depth a.materials.e.now a.hidden.now k.executions = rw e at l.invariant.2 in
+    replies_all l.invariant.5 e (omega (arith, w, c.requires.out_long))

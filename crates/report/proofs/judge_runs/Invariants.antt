@@ -1,10 +1,7 @@
 -- The numbers so far are the judge's.
-use Rattle.std.proofs.Common.{◌-◌, ◌≤◌, ◌≡◌, length}
+use Rattle.std.proofs.Common.{◌≡◌, length}
 use Rattle.report.specs.Judged.{Judged}
 use Rattle.report.proofs.judge_runs.Given as goal
 
 abbrev pub invariant-loop-count : goal.invariant-loop-count
-invariant-loop-count g l = (l.count ≤ 99) × (length l.verdicts ≡ 99) × (length l.run ≡ length l.initial.run) × Judged l.key l.count l.verdicts
-
-abbrev pub decreases-loop-count : goal.decreases-loop-count
-decreases-loop-count g l = 99 - l.count
+invariant-loop-count g l = (length l.verdicts ≡ 99) × (length l.run ≡ length l.initial.run) × Judged l.key l.count l.verdicts

@@ -1,11 +1,7 @@
 -- `put_number` meets its contract: the digits stand behind the word. Assumes nothing.
 use native.Mathlib.Omega.{arith}
-use Rattle.line.proofs.Laws.{long}
 use Rattle.sheet.proofs.Laws.{puts_tail, number-written}
 use Rattle.sheet.proofs.put_number.Goals as goal
-
-pub overflow_add-result : goal.overflow_add-result
-overflow_add-result c = omega (arith, c.put_decimal.ensures.value, long 2 c.args.n)
 
 pub returns : goal.returns
 returns c =

@@ -1,114 +1,46 @@
--- `open_side` takes the reply, the seed κ and part 4 from the file. Assumes nothing.
-use native.Mathlib.Omega.{arith}
-use Rattle.side.proofs.Laws.{headed, κ_in, κ_long, l_in, l_long, reply_in, reply-long, reply_given, kept_in}
+-- `open_side` meets its contract. Assumes nothing.
+use Prim.Native.Nat.{◌≤◌}
+use mathlib.Core.Path.{◌≡◌, sym, ap, ◌∙◌}
+use lib.ListN.{length, take}
+use borrow.Author.Rules.{rules}
+use Rattle.protocol.specs.Transcript.{Parts, parts_of}
+use Rattle.key.specs.Numbers.{key_with, of_with}
+use Rattle.side.proofs.Laws.{sided, headed, seed-long, κ_in, reply_in, reply-long, reply_given, kept_in}
 use Rattle.side.proofs.open_side.Goals as goal
 
-pub reply_place-at-requires-clause-limits : goal.reply_place-at-requires-clause-limits
-reply_place-at-requires-clause-limits c = c.requires.limits
+pub split-parts-requires : goal.split-parts-requires
+split-parts-requires c =
+    (headed c.requires.sound).good
 
-pub reply_place-at-requires-clause-headed : goal.reply_place-at-requires-clause-headed
-reply_place-at-requires-clause-headed c = headed c.requires.sound
+pub slice_bounds-reply-end : goal.slice_bounds-reply-end
+slice_bounds-reply-end c =
+    reply_in c.requires.sound (ap (λ (P : Parts). P.p7) (sym c.split-parts.ensures)) (c.reply_start-at.ensures.value (key_with c.args.key.numbers c.args.key.entries.now) (parts_of c.args.run.now) (of_with _ c.args.key.entries.now) (ap (λ (P : Parts). P.p2) (sym c.split-parts.ensures)) (ap (λ (P : Parts). P.p6) (sym c.split-parts.ensures))) (c.reply_length.ensures.value (key_with c.args.key.numbers c.args.key.entries.now) (parts_of c.args.run.now) (of_with _ c.args.key.entries.now) (ap (λ (P : Parts). P.p2) (sym c.split-parts.ensures)) (ap (λ (P : Parts). P.p6) (sym c.split-parts.ensures)))
 
-pub reply_place-at-requires-clause-e_lt_executions : goal.reply_place-at-requires-clause-e_lt_executions
-reply_place-at-requires-clause-e_lt_executions c = c.requires.sound.within
+pub unwrap-kappa-requires : goal.unwrap-kappa-requires
+unwrap-kappa-requires c =
+    let long : 16 ≤ length c.split-parts.result.p7.now = κ_in c.requires.sound (ap (λ (P : Parts). P.p7) (sym c.split-parts.ensures)) in
+    search rules
 
-pub reply_bytes-requires-clause-limits : goal.reply_bytes-requires-clause-limits
-reply_bytes-requires-clause-limits c = c.requires.limits
+pub unwrap-seed-requires : goal.unwrap-seed-requires
+unwrap-seed-requires c =
+    let long : length c.split-parts.result.p4.now ≡ 16 = seed-long c.requires.sound (ap (λ (P : Parts). P.p4) (sym c.split-parts.ensures)) in
+    search rules
 
-pub reply_bytes-requires-clause-headed : goal.reply_bytes-requires-clause-headed
-reply_bytes-requires-clause-headed c = headed c.requires.sound
+pub reopen_kept-requires-clause-reply_long : goal.reopen_kept-requires-clause-reply_long
+reopen_kept-requires-clause-reply_long c =
+    reply-long c.requires.sound (ap (λ (P : Parts). P.p7) (sym c.split-parts.ensures)) (c.reply_start-at.ensures.value (key_with c.args.key.numbers c.args.key.entries.now) (parts_of c.args.run.now) (of_with _ c.args.key.entries.now) (ap (λ (P : Parts). P.p2) (sym c.split-parts.ensures)) (ap (λ (P : Parts). P.p6) (sym c.split-parts.ensures))) (c.reply_length.ensures.value (key_with c.args.key.numbers c.args.key.entries.now) (parts_of c.args.run.now) (of_with _ c.args.key.entries.now) (ap (λ (P : Parts). P.p2) (sym c.split-parts.ensures)) (ap (λ (P : Parts). P.p6) (sym c.split-parts.ensures)))
 
-pub reply_bytes-requires-clause-e_lt_executions : goal.reply_bytes-requires-clause-e_lt_executions
-reply_bytes-requires-clause-e_lt_executions c = c.requires.sound.within
+pub reopen_kept-requires-clause-given : goal.reopen_kept-requires-clause-given
+reopen_kept-requires-clause-given c =
+    reply_given c.requires.sound (ap (λ (P : Parts). P.p7) (sym c.split-parts.ensures)) (c.reply_start-at.ensures.value (key_with c.args.key.numbers c.args.key.entries.now) (parts_of c.args.run.now) (of_with _ c.args.key.entries.now) (ap (λ (P : Parts). P.p2) (sym c.split-parts.ensures)) (ap (λ (P : Parts). P.p6) (sym c.split-parts.ensures))) (c.reply_length.ensures.value (key_with c.args.key.numbers c.args.key.entries.now) (parts_of c.args.run.now) (of_with _ c.args.key.entries.now) (ap (λ (P : Parts). P.p2) (sym c.split-parts.ensures)) (ap (λ (P : Parts). P.p6) (sym c.split-parts.ensures)))
 
-pub reply_bytes-requires-clause-e_kept : goal.reply_bytes-requires-clause-e_kept
-reply_bytes-requires-clause-e_kept c = c.requires.sound.kept
-
-pub slice_bounds-open_reply-end : goal.slice_bounds-open_reply-end
-slice_bounds-open_reply-end c = reply_in c.requires.sound c.reply_place-at.ensures.value c.reply_bytes.ensures.value
-
-pub slice_bounds-open_reply-count-2 : goal.slice_bounds-open_reply-count-2
-slice_bounds-open_reply-count-2 c = omega (arith, κ_in c.requires.sound c.part_start-s6.ensures.1, (l_in c.requires.sound c.part_start-s3.ensures.1 c.part_start-s4.ensures.1).0, (l_in c.requires.sound c.part_start-s3.ensures.1 c.part_start-s4.ensures.1).1)
-
-pub slice_bounds-open_reply-start-2 : goal.slice_bounds-open_reply-start-2
-slice_bounds-open_reply-start-2 c = omega (arith, κ_in c.requires.sound c.part_start-s6.ensures.1, (l_in c.requires.sound c.part_start-s3.ensures.1 c.part_start-s4.ensures.1).0, (l_in c.requires.sound c.part_start-s3.ensures.1 c.part_start-s4.ensures.1).1)
-
-pub slice_bounds-open_reply-end-2 : goal.slice_bounds-open_reply-end-2
-slice_bounds-open_reply-end-2 c = omega (arith, κ_in c.requires.sound c.part_start-s6.ensures.1, (l_in c.requires.sound c.part_start-s3.ensures.1 c.part_start-s4.ensures.1).0, (l_in c.requires.sound c.part_start-s3.ensures.1 c.part_start-s4.ensures.1).1)
-
-pub slice_bounds-open_reply-count-3 : goal.slice_bounds-open_reply-count-3
-slice_bounds-open_reply-count-3 c = omega (arith, (l_in c.requires.sound c.part_start-s3.ensures.1 c.part_start-s4.ensures.1).0, (l_in c.requires.sound c.part_start-s3.ensures.1 c.part_start-s4.ensures.1).1)
-
-pub slice_bounds-open_reply-start-3 : goal.slice_bounds-open_reply-start-3
-slice_bounds-open_reply-start-3 c = omega (arith, (l_in c.requires.sound c.part_start-s3.ensures.1 c.part_start-s4.ensures.1).0, (l_in c.requires.sound c.part_start-s3.ensures.1 c.part_start-s4.ensures.1).1)
-
-pub slice_bounds-open_reply-end-3 : goal.slice_bounds-open_reply-end-3
-slice_bounds-open_reply-end-3 c = omega (arith, (l_in c.requires.sound c.part_start-s3.ensures.1 c.part_start-s4.ensures.1).0, (l_in c.requires.sound c.part_start-s3.ensures.1 c.part_start-s4.ensures.1).1)
-
-pub open_reply-requires-clause-limits : goal.open_reply-requires-clause-limits
-open_reply-requires-clause-limits c =
-    let p = c.requires in
-    p.limits
-
-pub open_reply-requires-clause-depth : goal.open_reply-requires-clause-depth
-open_reply-requires-clause-depth c = c.depth-depth.ensures
-
-pub open_reply-requires-clause-hidden_lt_parties : goal.open_reply-requires-clause-hidden_lt_parties
-open_reply-requires-clause-hidden_lt_parties c =
-    let p = c.requires in
-    p.sound.below
-
-pub open_reply-requires-clause-e_bound : goal.open_reply-requires-clause-e_bound
-open_reply-requires-clause-e_bound c =
-    let p = c.requires in
-    (omega (arith, p.sound.within, p.limits.executions_most))
-
-pub open_reply-requires-clause-reply_len : goal.open_reply-requires-clause-reply_len
-open_reply-requires-clause-reply_len c =
-    let p = c.requires in
-    reply-long p.sound c.reply_place-at.ensures.value c.reply_bytes.ensures.value c.depth-depth.ensures
-
-pub open_reply-requires-clause-given : goal.open_reply-requires-clause-given
-open_reply-requires-clause-given c =
-    let p = c.requires in
-    reply_given p.sound c.reply_place-at.ensures.value c.reply_bytes.ensures.value c.depth-depth.ensures
-
-pub open_reply-requires-clause-kappa_len : goal.open_reply-requires-clause-kappa_len
-open_reply-requires-clause-kappa_len c =
-    let p = c.requires in
-    omega (arith, κ_long p.sound c.part_start-s6.ensures.1, l_long p.sound c.part_start-s3.ensures.1 c.part_start-s4.ensures.1)
-
-pub open_reply-requires-clause-seed_len : goal.open_reply-requires-clause-seed_len
-open_reply-requires-clause-seed_len c =
-    let p = c.requires in
-    l_long p.sound c.part_start-s3.ensures.1 c.part_start-s4.ensures.1
-
-pub open_reply-requires-clause-m_in_bounds : goal.open_reply-requires-clause-m_in_bounds
-open_reply-requires-clause-m_in_bounds c =
-    let p = c.requires in
-    p.m_in_bounds
-
-pub open_reply-requires-clause-inputs_len : goal.open_reply-requires-clause-inputs_len
-open_reply-requires-clause-inputs_len c =
-    let p = c.requires in
-    p.inputs_len
-
-pub open_reply-requires-clause-parties_in_bounds : goal.open_reply-requires-clause-parties_in_bounds
-open_reply-requires-clause-parties_in_bounds c =
-    let p = c.requires in
-    p.parties_in_bounds
+pub write-requires-clause-reply_long : goal.write-requires-clause-reply_long
+write-requires-clause-reply_long c =
+    reply-long c.requires.sound (ap (λ (P : Parts). P.p7) (sym c.split-parts.ensures)) (c.reply_start-at.ensures.value (key_with c.args.key.numbers c.args.key.entries.now) (parts_of c.args.run.now) (of_with _ c.args.key.entries.now) (ap (λ (P : Parts). P.p2) (sym c.split-parts.ensures)) (ap (λ (P : Parts). P.p6) (sym c.split-parts.ensures))) (c.reply_length.ensures.value (key_with c.args.key.numbers c.args.key.entries.now) (parts_of c.args.run.now) (of_with _ c.args.key.entries.now) (ap (λ (P : Parts). P.p2) (sym c.split-parts.ensures)) (ap (λ (P : Parts). P.p6) (sym c.split-parts.ensures)))
 
 pub returns-clause-sided : goal.returns-clause-sided
 returns-clause-sided c =
-    let made = c.open_reply.ensures in
-    made.sided _ _ (kept_in c.requires.sound c.reply_place-at.ensures.value c.reply_bytes.ensures.value c.depth-depth.ensures c.part_start-s3.ensures.1 c.part_start-s4.ensures.1 c.part_start-s6.ensures.1)
-
-pub returns-clause-inputs_len_unchanged : goal.returns-clause-inputs_len_unchanged
-returns-clause-inputs_len_unchanged c =
-    let made = c.open_reply.ensures in
-    made.inputs_len_unchanged
-
-pub returns-clause-work_len_unchanged : goal.returns-clause-work_len_unchanged
-returns-clause-work_len_unchanged c =
-    let made = c.open_reply.ensures in
-    made.work_len_unchanged
+    let kappa : c.unwrap-kappa.result.now ≡ take 16 c.split-parts.result.p7.now = search rules in
+    let seed : c.unwrap-seed.result.now ≡ c.split-parts.result.p4.now = search rules in
+    let at = kept_in c.requires.sound (ap (λ (P : Parts). P.p7) (sym c.split-parts.ensures)) (c.reply_start-at.ensures.value (key_with c.args.key.numbers c.args.key.entries.now) (parts_of c.args.run.now) (of_with _ c.args.key.entries.now) (ap (λ (P : Parts). P.p2) (sym c.split-parts.ensures)) (ap (λ (P : Parts). P.p6) (sym c.split-parts.ensures))) (c.reply_length.ensures.value (key_with c.args.key.numbers c.args.key.entries.now) (parts_of c.args.run.now) (of_with _ c.args.key.entries.now) (ap (λ (P : Parts). P.p2) (sym c.split-parts.ensures)) (ap (λ (P : Parts). P.p6) (sym c.split-parts.ensures))) kappa ((ap (λ (P : Parts). P.p4) (sym c.split-parts.ensures)) ∙ sym seed) in
+    sided c.reopen_kept.ensures.kept at (c.write.ensures.written (key_with c.args.key.numbers c.args.key.entries.now) (parts_of c.args.run.now) at)

@@ -6,7 +6,7 @@ use Rattle.transcript.specs.Replies.{count-last, count_other}
 use Rattle.transcript.proofs.given_count.Goals as goal
 
 pub returns-then-h-k : goal.returns-then-h-k
-returns-then-h-k c = ((omega arith), λ K P x of e. ap (λ (m : ℕ). m + 1) of.m_is ∙ count-last K P x _ (omega arith) e (c.if-h-k.true ∙ of.parties_is))
+returns-then-h-k c = (omega (arith, c.args.k.limits.m_most), λ K P x of e. ap (λ (m : ℕ). m + 1) of.m_is ∙ count-last K P x _ (omega (arith, c.args.k.limits.parties_least, of.parties_is)) e (c.if-h-k.true ∙ of.parties_is))
 
 pub returns : goal.returns
-returns c = ((omega arith), λ K P x of e. ap (λ (m : ℕ). m + 1 + 2 * m) of.m_is ∙ count_other K P x _ (omega arith) e (λ n. c.if-h-k.false (n ∙ sym of.parties_is)))
+returns c = (omega (arith, c.args.k.limits.m_most), λ K P x of e. ap (λ (m : ℕ). m + 1 + 2 * m) of.m_is ∙ count_other K P x _ (omega (arith, c.args.k.limits.parties_least, of.parties_is)) e (λ n. c.if-h-k.false (n ∙ sym of.parties_is)))

@@ -1,6 +1,6 @@
 -- `good_numbers` walks the replies of the kept. Invariant: the replies before x are good, the next one begins at `at`, and `kept` of them are passed.
 -- Assumes nothing.
-use Prim.Native.Nat.{◌+◌, ◌*◌, ◌≤◌, ◌-◌}
+use Prim.Native.Nat.{◌+◌, ◌*◌, ◌≤◌}
 use mathlib.Core.Path.{◌≡◌}
 use mathlib.Core.Bool.{true}
 use mathlib.Core.List.{[]}
@@ -14,8 +14,5 @@ use Rattle.transcript.proofs.good_numbers.Given as goal
 
 abbrev pub invariant-loop-x : goal.invariant-loop-x
 invariant-loop-x l =
-    (l.x ≤ l.executions) × (l.at ≤ 16 + 1652 * l.x) × (l.kept ≤ l.x) × (l.kept ≡ place l.e l.x)
+    (l.at ≤ 16 + 1652 * l.x) × (l.kept ≤ l.x) × (l.kept ≡ place l.e l.x)
     × (l.at ≡ 16 + sum l.x (reply_size (key_with l.k []) (parts_with l.e l.hidden l.replies))) × (every l.x (reply_good (key_with l.k []) (parts_with l.e l.hidden l.replies)) ≡ true)
-
-abbrev pub decreases-loop-x : goal.decreases-loop-x
-decreases-loop-x l = l.executions - l.x

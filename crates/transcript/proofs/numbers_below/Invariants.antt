@@ -1,5 +1,4 @@
 -- `numbers_below` stops at the first number that is q or more. Invariant: those before j are below q. Assumes nothing.
-use Prim.Native.Nat.{◌≤◌, ◌-◌}
 use mathlib.Core.Path.{◌≡◌}
 use mathlib.Core.Bool.{true}
 use lib.Dec.{ltb}
@@ -8,7 +7,4 @@ use Rattle.lists.specs.Index.{every}
 use Rattle.transcript.proofs.numbers_below.Given as goal
 
 abbrev pub invariant-loop-j : goal.invariant-loop-j
-invariant-loop-j l = (l.j ≤ l.count) × (every l.j (λ i. ltb (num l.x i) l.q) ≡ true)
-
-abbrev pub decreases-loop-j : goal.decreases-loop-j
-decreases-loop-j l = l.count - l.j
+invariant-loop-j l = (every l.j (λ i. ltb (num l.x i) l.q) ≡ true)

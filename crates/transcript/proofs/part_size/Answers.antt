@@ -1,29 +1,30 @@
 -- `part_size` by the six entries of `sizes`. Assumes nothing.
-use mathlib.Core.Path.{◌≡◌}
-use native.Mathlib.Omega.{arith}
+use Rattle.std.proofs.Common.{◌≡◌, arith}
 use Rattle.protocol.specs.Transcript.{sizes}
 use Rattle.transcript.proofs.part_size.Goals as goal
 
-pub returns-then-i-eq0 : goal.returns-then-i-eq0
+pub returns-in-0 : goal.returns-in-0
 unfolding sizes
-returns-then-i-eq0 c = ((omega arith), λ K of. rw c.if-i-eq0.true)
+returns-in-0 c = (omega arith, λ K of. rw c.in-0.is)
 
-pub returns-then-i-eq1 : goal.returns-then-i-eq1
+pub returns-in-1 : goal.returns-in-1
 unfolding sizes
-returns-then-i-eq1 c = ((omega arith), λ K of. rw c.if-i-eq1.true of.τ_is)
+returns-in-1 c = (omega (arith, c.args.k.limits.executions_most, c.args.k.limits.τ_below_m), λ K of. rw c.in-1.is of.τ_is)
 
-pub returns-then-i-eq2 : goal.returns-then-i-eq2
+pub returns-in-2 : goal.returns-in-2
 unfolding sizes
-returns-then-i-eq2 c = ((omega arith), λ K of. rw (c.if-i-eq2.true, of.τ_is, of.executions_is))
+returns-in-2 c = (omega (arith, c.args.k.limits.executions_most, c.args.k.limits.τ_below_m), λ K of. rw (c.in-2.is, of.τ_is, of.executions_is))
 
-pub returns-then-i-eq3 : goal.returns-then-i-eq3
+pub returns-in-3 : goal.returns-in-3
 unfolding sizes
-returns-then-i-eq3 c = ((omega arith), λ K of. rw c.if-i-eq3.true)
+returns-in-3 c = (omega arith, λ K of. rw c.in-3.is)
 
-pub returns-then-i-eq4 : goal.returns-then-i-eq4
+pub returns-in-4 : goal.returns-in-4
 unfolding sizes
-returns-then-i-eq4 c = ((omega arith), λ K of. rw c.if-i-eq4.true)
+returns-in-4 c = (omega arith, λ K of. rw c.in-4.is)
 
-pub returns : goal.returns
+pub returns-in_default : goal.returns-in_default
 unfolding sizes
-returns c = let e : c.args.i ≡ 5 = omega arith in ((omega arith), λ K of. rw (e, of.τ_is, of.executions_is))
+returns-in_default c =
+    let e : c.args.i ≡ 5 = omega arith in
+    (omega (arith, c.args.k.limits.executions_most), λ K of. rw (e, of.τ_is, of.executions_is))

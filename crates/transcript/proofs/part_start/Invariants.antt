@@ -1,5 +1,5 @@
 -- `part_start` adds up the lengths before part i. Invariant: `at` is where part j begins. Assumes nothing.
-use Prim.Native.Nat.{◌+◌, ◌*◌, ◌≤◌, ◌-◌}
+use Prim.Native.Nat.{◌+◌, ◌*◌, ◌≤◌}
 use mathlib.Core.Path.{◌≡◌}
 use Rattle.protocol.specs.Key.{Key}
 use Rattle.key.specs.Numbers.{Of}
@@ -7,7 +7,4 @@ use Rattle.transcript.specs.Layout.{start_of}
 use Rattle.transcript.proofs.part_start.Given as goal
 
 abbrev pub invariant-loop-j : goal.invariant-loop-j
-invariant-loop-j l = (l.j ≤ l.i) × (l.at ≤ 56 + 1056 * l.j) × ((K : Key) → Of l.k K → l.at ≡ start_of K l.j)
-
-abbrev pub decreases-loop-j : goal.decreases-loop-j
-decreases-loop-j l = l.i - l.j
+invariant-loop-j l = (l.at ≤ 56 + 1056 * l.j) × ((K : Key) → Of l.k K → l.at ≡ start_of K l.j)

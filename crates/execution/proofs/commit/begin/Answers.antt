@@ -5,4 +5,4 @@ use Rattle.execution.proofs.commit.begin.Goals as goal
 
 pub returns : goal.returns
 unfolding input
-returns c = record { stands = λ body z fed. fed.stands [] c.start.ensures }
+returns c = record { stands = λ body z fed. fed.stands [] c.new.ensures }

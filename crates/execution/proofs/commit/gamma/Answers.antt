@@ -4,7 +4,7 @@ use Rattle.execution.proofs.commit.gamma.Goals as goal
 
 pub returns : goal.returns
 returns c =
-    rw (← c.block_of-r.ensures)
+    rw (← c.block_of.ensures)
     (c.finish.ensures _
     (c.begin-s.ensures.stands _ _
-    (fed_join (fed_join c.update-with_seed.ensures c.numbers-with_numbers.ensures) c.update.ensures)))
+    (fed_join (fed_join c.update.ensures c.numbers.ensures) c.update-2.ensures)))

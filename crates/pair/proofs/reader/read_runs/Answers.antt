@@ -1,65 +1,17 @@
 -- `read_runs` meets its contract. Assumes nothing.
-use Prim.Native.Nat.{ℕ, ◌+◌, ◌*◌, ◌-◌}
-use mathlib.Core.Path.{sym}
-use native.Mathlib.Omega.{arith}
-use lib.ListN.{replicate}
-use lib.Seq.{length-take-le}
+use Rattle.std.proofs.Common.{◌≡◌, Err, rules, sym}
+use Rattle.key.specs.Numbers.{key_with}
+use Rattle.pair.proofs.Answering.{forks_of, reads_refused, reads_accepted}
 use Rattle.pair.proofs.reader.read_runs.Goals as goal
 
-pub slice_bounds-read_judged-end : goal.slice_bounds-read_judged-end
-slice_bounds-read_judged-end c = sym (length-take-le (32 * c.args.k.executions + 64 * (c.args.k.executions - c.args.k.opened)) (replicate 3072 0) (omega (arith, c.requires.limits.executions_most)))
+pub returns-in_err-check : goal.returns-in_err-check
+returns-in_err-check c =
+    let is : c.from_residual.result ≡ Err c.in_err-check.field-0.0 = search rules in
+    reads_refused _ _ c.args.hash1.now c.args.hash2.now c.args.secret.now c.args.uv.now (sym c.in_err-check.ensures.verdict) is
 
-pub slice_bounds-read_judged-end-2 : goal.slice_bounds-read_judged-end-2
-slice_bounds-read_judged-end-2 c = sym (length-take-le (32 * c.args.k.executions + 64 * (c.args.k.executions - c.args.k.opened)) (replicate 3072 0) (omega (arith, c.requires.limits.executions_most)))
+pub read_fork-requires-clause-forks : goal.read_fork-requires-clause-forks
+read_fork-requires-clause-forks c =
+    forks_of (key_with c.args.key.numbers c.args.key.entries.now) c.args.run1.now c.args.run2.now c.requires.good_key (sym c.in_ok-check.ensures.verdict)
 
-pub read_judged-requires-clause-limits : goal.read_judged-requires-clause-limits
-read_judged-requires-clause-limits c =
-    let p = c.requires in
-    p.limits
-
-pub read_judged-requires-clause-good_key : goal.read_judged-requires-clause-good_key
-read_judged-requires-clause-good_key c =
-    let p = c.requires in
-    p.good_key
-
-pub read_judged-requires-clause-m_in_bounds : goal.read_judged-requires-clause-m_in_bounds
-read_judged-requires-clause-m_in_bounds c =
-    let p = c.requires in
-    p.m_in_bounds
-
-pub read_judged-requires-clause-lists1_len : goal.read_judged-requires-clause-lists1_len
-read_judged-requires-clause-lists1_len c =
-    let p = c.requires in
-    let lists = length-take-le {A = ℕ} (32 * c.args.k.executions + 64 * (c.args.k.executions - c.args.k.opened)) (replicate 3072 0) (omega (arith, p.limits.executions_most)) in
-    lists
-
-pub read_judged-requires-clause-lists2_len : goal.read_judged-requires-clause-lists2_len
-read_judged-requires-clause-lists2_len c =
-    let p = c.requires in
-    let lists = length-take-le {A = ℕ} (32 * c.args.k.executions + 64 * (c.args.k.executions - c.args.k.opened)) (replicate 3072 0) (omega (arith, p.limits.executions_most)) in
-    lists
-
-pub read_judged-requires-clause-in_bounds : goal.read_judged-requires-clause-in_bounds
-read_judged-requires-clause-in_bounds c =
-    let p = c.requires in
-    p.in_bounds
-
-pub read_judged-requires-clause-in_bounds_2 : goal.read_judged-requires-clause-in_bounds_2
-read_judged-requires-clause-in_bounds_2 c =
-    let p = c.requires in
-    p.in_bounds_2
-
-pub read_judged-requires-clause-m_in_bounds_2 : goal.read_judged-requires-clause-m_in_bounds_2
-read_judged-requires-clause-m_in_bounds_2 c =
-    let p = c.requires in
-    p.m_in_bounds_2
-
-pub read_judged-requires-clause-m_in_bounds_3 : goal.read_judged-requires-clause-m_in_bounds_3
-read_judged-requires-clause-m_in_bounds_3 c =
-    let p = c.requires in
-    p.m_in_bounds_3
-
-pub read_judged-requires-clause-parties_in_bounds : goal.read_judged-requires-clause-parties_in_bounds
-read_judged-requires-clause-parties_in_bounds c =
-    let p = c.requires in
-    p.parties_in_bounds
+pub returns : goal.returns
+returns c = reads_accepted _ (sym c.in_ok-check.ensures.verdict) c.read_fork.ensures

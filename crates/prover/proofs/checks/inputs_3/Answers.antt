@@ -11,16 +11,11 @@ returns-then-not-sized c =
     let of = c.requires.of in
     inputs3_6 (key_of a.key.now) _ _ _ _ (sym (c.sized.ensures.is (key_of a.key.now) (sym of.m_is) (sym of.executions_is)) ∙ c.if-not-sized.true)
 
-pub statement-requires-clause-read : goal.statement-requires-clause-read
-statement-requires-clause-read c =
-    let p = c.requires in
-    p
-
-pub statement-requires-clause-secret_len : goal.statement-requires-clause-secret_len
-statement-requires-clause-secret_len c =
+pub statement-requires-clause-secret_long : goal.statement-requires-clause-secret_long
+statement-requires-clause-secret_long c =
     let a = c.args in
-    let p = c.requires in
-    secret_long (key_of a.key.now) a.seeds.now a.secret.now [] a.kappa.now (sym (c.sized.ensures.is (key_of a.key.now) (sym p.of.m_is) (sym p.of.executions_is)) ∙ c.if-not-sized.false) ∙ sym p.of.m_is
+    let of = c.requires.of in
+    secret_long (key_of a.key.now) a.seeds.now a.secret.now [] a.kappa.now (sym (c.sized.ensures.is (key_of a.key.now) (sym of.m_is) (sym of.executions_is)) ∙ c.if-not-sized.false) ∙ sym of.m_is
 
 pub returns : goal.returns
 returns c =

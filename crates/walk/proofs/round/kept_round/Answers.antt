@@ -1,156 +1,74 @@
 -- `kept_round` meets its contract. Assumes nothing.
-use mathlib.Core.Path.{sym, ap}
-use Prim.Native.Nat.{◌+◌, ◌*◌, ◌-◌, ◌<◌, ◌≤◌}
+use mathlib.Core.Path.{◌≡◌, sym, ap, ◌∙◌, subst}
+use Prim.Native.Nat.{ℕ, ◌+◌, ◌*◌, ◌-◌, ◌≤◌}
 use native.Mathlib.Omega.{arith}
-use lib.ListN.{length, replicate}
-use lib.Seq.{length-take-le}
-use Rattle.walk.proofs.Laws.{rank_most, place_below, hidden_least, hid_below, end_inside, replies_least, reply-long, given_is, kept_in, kept_step}
+use mathlib.Core.List.{List}
+use lib.ListN.{length, take}
+use Rattle.std.specs.Prelude.{Err}
+use Rattle.refusals.specs.Refused.{verdict_of}
+use Rattle.walk.specs.Walk.{Stepped, put}
+use borrow.Author.Rules.{rules}
+use Rattle.walk.proofs.Laws.{depth_most, rank_most, place_below, hidden_least, hid_below, end_inside, replies_least, given_is, kept_in, tests_are, kept_step}
 use Rattle.walk.proofs.round.kept_round.Goals as goal
 
 pub overflow_sub-place : goal.overflow_sub-place
-overflow_sub-place c =
-    let most : c.args.rank ≤ c.args.e = rank_most c.requires.stood.so (c.requires.reached _ _ c.requires.stood.so) c.requires.e_lt_executions c.requires.e_kept in
-    omega (arith, most)
+overflow_sub-place c = rank_most c.args.run.stood (c.requires.reached _ _ c.args.run.stood) c.requires.e_lt_executions c.requires.e_kept
 
 pub hidden_party-hidden-requires : goal.hidden_party-hidden-requires
-hidden_party-hidden-requires c = hidden_least c.requires.stood.so (c.requires.reached _ _ c.requires.stood.so) c.requires.e_lt_executions c.requires.e_kept
-
-pub reply_length-requires-clause-m_bound : goal.reply_length-requires-clause-m_bound
-reply_length-requires-clause-m_bound c = c.requires.within.limits.m_most
+hidden_party-hidden-requires c = hidden_least c.args.run.stood (c.requires.reached _ _ c.args.run.stood) c.requires.e_lt_executions c.requires.e_kept
 
 pub reply_length-requires-clause-depth_bound : goal.reply_length-requires-clause-depth_bound
-reply_length-requires-clause-depth_bound c = c.requires.within.deep
+reply_length-requires-clause-depth_bound c = depth_most c.args.run.stood
 
 pub reply_length-requires-clause-hidden_lt_parties : goal.reply_length-requires-clause-hidden_lt_parties
-reply_length-requires-clause-hidden_lt_parties c =
-    let party : c.hidden_party-hidden.result < c.args.parties = hid_below c.requires.stood.so (c.requires.reached _ _ c.requires.stood.so) c.requires.e_lt_executions c.requires.e_kept c.hidden_party-hidden.ensures in
-    party
+reply_length-requires-clause-hidden_lt_parties c = hid_below c.args.run.stood (c.requires.reached _ _ c.args.run.stood) c.requires.e_lt_executions c.requires.e_kept c.hidden_party-hidden.ensures
 
 pub overflow_add-end : goal.overflow_add-end
-overflow_add-end c =
-    let ends : c.args.at + c.reply_length.result ≤ length c.args.p7.now = end_inside c.requires.stood.so (c.requires.reached _ _ c.requires.stood.so) c.requires.e_lt_executions c.requires.e_kept c.hidden_party-hidden.ensures (ap (λ x. c.args.at + x) c.reply_length.ensures) in
-    omega (arith, ends)
+overflow_add-end c = omega (arith, end_inside c.args.run.stood (c.requires.reached _ _ c.args.run.stood) c.requires.e_lt_executions c.requires.e_kept c.hidden_party-hidden.ensures (ap (λ x. c.args.here.at + x) c.reply_length.ensures))
+
+pub unwrap-kappa-requires : goal.unwrap-kappa-requires
+unwrap-kappa-requires c = let long : 16 ≤ length c.args.run.parts.p7.now = replies_least c.args.run.stood in search rules
 
 pub slice_bounds-kept_execution-end : goal.slice_bounds-kept_execution-end
-slice_bounds-kept_execution-end c =
-    let ends : c.args.at + c.reply_length.result ≤ length c.args.p7.now = end_inside c.requires.stood.so (c.requires.reached _ _ c.requires.stood.so) c.requires.e_lt_executions c.requires.e_kept c.hidden_party-hidden.ensures (ap (λ x. c.args.at + x) c.reply_length.ensures) in
-    ends
-
-pub slice_bounds-kept_execution-end-2 : goal.slice_bounds-kept_execution-end-2
-slice_bounds-kept_execution-end-2 c = sym (length-take-le 16 c.args.p7.now (replies_least c.requires.stood.so))
-
-pub slice_bounds-kept_execution-end-3 : goal.slice_bounds-kept_execution-end-3
-slice_bounds-kept_execution-end-3 c =
-    let few : 16 * c.args.parties ≤ 512 = omega (arith, c.requires.within.limits.parties_most) in
-    sym (length-take-le _ (replicate 512 0) few)
-
-pub kept_execution-v-requires-clause-limits : goal.kept_execution-v-requires-clause-limits
-kept_execution-v-requires-clause-limits c =
-    let p = c.requires in
-    p.within.limits
-
-pub kept_execution-v-requires-clause-member : goal.kept_execution-v-requires-clause-member
-kept_execution-v-requires-clause-member c =
-    let p = c.requires in
-    p.within.parties_listed
-
-pub kept_execution-v-requires-clause-n_bound : goal.kept_execution-v-requires-clause-n_bound
-kept_execution-v-requires-clause-n_bound c =
-    let p = c.requires in
-    p.within.n_most
-
-pub kept_execution-v-requires-clause-execution_bound : goal.kept_execution-v-requires-clause-execution_bound
-kept_execution-v-requires-clause-execution_bound c =
-    let p = c.requires in
-    omega (arith, p.e_lt_executions, p.within.executions_most)
-
-pub kept_execution-v-requires-clause-depth_value : goal.kept_execution-v-requires-clause-depth_value
-kept_execution-v-requires-clause-depth_value c =
-    let p = c.requires in
-    p.within.full
+slice_bounds-kept_execution-end c = end_inside c.args.run.stood (c.requires.reached _ _ c.args.run.stood) c.requires.e_lt_executions c.requires.e_kept c.hidden_party-hidden.ensures (ap (λ x. c.args.here.at + x) c.reply_length.ensures)
 
 pub kept_execution-v-requires-clause-hidden_lt_parties : goal.kept_execution-v-requires-clause-hidden_lt_parties
-kept_execution-v-requires-clause-hidden_lt_parties c =
-    let party : c.hidden_party-hidden.result < c.args.parties = hid_below c.requires.stood.so (c.requires.reached _ _ c.requires.stood.so) c.requires.e_lt_executions c.requires.e_kept c.hidden_party-hidden.ensures in
-    party
-
-pub kept_execution-v-requires-clause-reply_len : goal.kept_execution-v-requires-clause-reply_len
-kept_execution-v-requires-clause-reply_len c =
-    let a = c.args in
-    let h = c.hidden_party-hidden.ensures in
-    let z = ap (λ x. a.at + x) c.reply_length.ensures in
-    reply-long c.requires.stood.so (c.requires.reached _ _ c.requires.stood.so) c.requires.e_lt_executions c.requires.e_kept h z
+kept_execution-v-requires-clause-hidden_lt_parties c = hid_below c.args.run.stood (c.requires.reached _ _ c.args.run.stood) c.requires.e_lt_executions c.requires.e_kept c.hidden_party-hidden.ensures
 
 pub kept_execution-v-requires-clause-given : goal.kept_execution-v-requires-clause-given
-kept_execution-v-requires-clause-given c =
-    let a = c.args in
-    let h = c.hidden_party-hidden.ensures in
-    let z = ap (λ x. a.at + x) c.reply_length.ensures in
-    given_is c.requires.stood.so (c.requires.reached _ _ c.requires.stood.so) c.requires.e_lt_executions c.requires.e_kept h z
-
-pub kept_execution-v-requires-clause-kappa_len : goal.kept_execution-v-requires-clause-kappa_len
-kept_execution-v-requires-clause-kappa_len c =
-    let p = c.requires in
-    let a = c.args in
-    length-take-le 16 a.p7.now (replies_least p.stood.so)
-
-pub kept_execution-v-requires-clause-seed_len : goal.kept_execution-v-requires-clause-seed_len
-kept_execution-v-requires-clause-seed_len c =
-    let p = c.requires in
-    p.p4_len
-
-pub kept_execution-v-requires-clause-m_in_bounds : goal.kept_execution-v-requires-clause-m_in_bounds
-kept_execution-v-requires-clause-m_in_bounds c =
-    let p = c.requires in
-    p.m_in_bounds
-
-pub kept_execution-v-requires-clause-leaves_len : goal.kept_execution-v-requires-clause-leaves_len
-kept_execution-v-requires-clause-leaves_len c =
-    let few : 16 * c.args.parties ≤ 512 = omega (arith, c.requires.within.limits.parties_most) in
-    length-take-le _ (replicate 512 0) few
-
-pub kept_execution-v-requires-clause-parties_in_bounds : goal.kept_execution-v-requires-clause-parties_in_bounds
-kept_execution-v-requires-clause-parties_in_bounds c =
-    let p = c.requires in
-    p.parties_in_bounds
-
-pub overflow_mul-from : goal.overflow_mul-from
-overflow_mul-from c =
-    let low : c.args.e - c.args.rank < c.args.executions - c.args.openings = place_below c.requires.stood.so (c.requires.reached _ _ c.requires.stood.so) c.requires.e_lt_executions c.requires.e_kept in
-    omega (arith, low, c.requires.within.τ_below, c.requires.within.executions_most)
-
-pub overflow_mul-from-2 : goal.overflow_mul-from-2
-overflow_mul-from-2 c =
-    let low : c.args.e - c.args.rank < c.args.executions - c.args.openings = place_below c.requires.stood.so (c.requires.reached _ _ c.requires.stood.so) c.requires.e_lt_executions c.requires.e_kept in
-    omega (arith, low, c.requires.within.τ_below, c.requires.within.executions_most)
-
-pub overflow_add-from : goal.overflow_add-from
-overflow_add-from c =
-    let low : c.args.e - c.args.rank < c.args.executions - c.args.openings = place_below c.requires.stood.so (c.requires.reached _ _ c.requires.stood.so) c.requires.e_lt_executions c.requires.e_kept in
-    omega (arith, low, c.requires.within.τ_below, c.requires.within.executions_most)
-
-pub overflow_add-to : goal.overflow_add-to
-overflow_add-to c =
-    let low : c.args.e - c.args.rank < c.args.executions - c.args.openings = place_below c.requires.stood.so (c.requires.reached _ _ c.requires.stood.so) c.requires.e_lt_executions c.requires.e_kept in
-    omega (arith, low, c.requires.within.τ_below, c.requires.within.executions_most)
+kept_execution-v-requires-clause-given c = given_is c.args.run.stood (c.requires.reached _ _ c.args.run.stood) c.requires.e_lt_executions c.requires.e_kept c.hidden_party-hidden.ensures (ap (λ x. c.args.here.at + x) c.reply_length.ensures)
 
 pub slice_bounds-omega_good-end : goal.slice_bounds-omega_good-end
-slice_bounds-omega_good-end c =
-    let low : c.args.e - c.args.rank < c.args.executions - c.args.openings = place_below c.requires.stood.so (c.requires.reached _ _ c.requires.stood.so) c.requires.e_lt_executions c.requires.e_kept in
-    let omegas : 16 * c.args.openings + 32 * (c.args.e - c.args.rank) + 32 ≤ length c.args.p3.now = omega (arith, low, c.requires.p3_len) in
-    omegas
+slice_bounds-omega_good-end c = omega (arith, place_below c.args.run.stood (c.requires.reached _ _ c.args.run.stood) c.requires.e_lt_executions c.requires.e_kept, c.args.run.p3_long)
 
 pub omega_good-good-requires : goal.omega_good-good-requires
-omega_good-good-requires c =
-    let party : c.hidden_party-hidden.result < c.args.parties = hid_below c.requires.stood.so (c.requires.reached _ _ c.requires.stood.so) c.requires.e_lt_executions c.requires.e_kept c.hidden_party-hidden.ensures in
-    party
+omega_good-good-requires c = hid_below c.args.run.stood (c.requires.reached _ _ c.args.run.stood) c.requires.e_lt_executions c.requires.e_kept c.hidden_party-hidden.ensures
+
+pub returns-in_err-check_kept-clause-verdict : goal.returns-in_err-check_kept-clause-verdict
+returns-in_err-check_kept-clause-verdict c =
+    let kappa : c.unwrap-kappa.result.now ≡ take 16 c.args.run.parts.p7.now = search rules in
+    let seed : c.unwrap-seed.result.now ≡ c.args.run.parts.p4.now = search rules in
+    let is : c.from_residual.result ≡ Err c.in_err-check_kept.field-0.0 = search rules in
+    λ K P so. ap verdict_of is ∙ c.in_err-check_kept.ensures ∙ tests_are so (c.requires.reached K P so) c.requires.e_lt_executions c.requires.e_kept c.hidden_party-hidden.ensures (ap (λ x. c.args.here.at + x) c.reply_length.ensures) (c.kept_execution-v.ensures.evaluates K P (kept_in so (c.requires.reached K P so) c.requires.e_lt_executions c.requires.e_kept c.hidden_party-hidden.ensures (ap (λ x. c.args.here.at + x) c.reply_length.ensures) kappa seed)) c.omega_good-good.ensures
+
+pub put_digest-requires-3 : goal.put_digest-requires-3
+put_digest-requires-3 c = omega (arith, place_below c.args.run.stood (c.requires.reached _ _ c.args.run.stood) c.requires.e_lt_executions c.requires.e_kept, c.requires.lists_long, c.put_digest.ensures.lists_len_unchanged, c.put_digest-2.ensures.lists_len_unchanged)
+
+pub returns-clause-verdict : goal.returns-clause-verdict
+returns-clause-verdict c =
+    let kappa : c.unwrap-kappa.result.now ≡ take 16 c.args.run.parts.p7.now = search rules in
+    let seed : c.unwrap-seed.result.now ≡ c.args.run.parts.p4.now = search rules in
+    λ K P so. c.in_ok-check_kept.ensures ∙ tests_are so (c.requires.reached K P so) c.requires.e_lt_executions c.requires.e_kept c.hidden_party-hidden.ensures (ap (λ x. c.args.here.at + x) c.reply_length.ensures) (c.kept_execution-v.ensures.evaluates K P (kept_in so (c.requires.reached K P so) c.requires.e_lt_executions c.requires.e_kept c.hidden_party-hidden.ensures (ap (λ x. c.args.here.at + x) c.reply_length.ensures) kappa seed)) c.omega_good-good.ensures
 
 pub returns-clause-stepped : goal.returns-clause-stepped
 returns-clause-stepped c =
-    let p = c.requires in
-    let a = c.args in
-    let h = c.hidden_party-hidden.ensures in
-    let z = ap (λ x. a.at + x) c.reply_length.ensures in
-    (λ K P so.
-    kept_step so (p.reached K P so) p.e_lt_executions p.e_kept h z
-    (c.kept_execution-v.ensures.evaluates K P (kept_in so (p.reached K P so) p.e_lt_executions p.e_kept h z)) c.omega_good-good.ensures c.kept_code-code.ensures)
+    let kappa : c.unwrap-kappa.result.now ≡ take 16 c.args.run.parts.p7.now = search rules in
+    let seed : c.unwrap-seed.result.now ≡ c.args.run.parts.p4.now = search rules in
+    let h : length c.kept_execution-v.result.h ≡ 32 = search rules in
+    let pi : length c.kept_execution-v.result.pi ≡ 32 = search rules in
+    let psi : length c.kept_execution-v.result.psi ≡ 32 = search rules in
+    let lists : c.put_digest-3.new.lists ≡ put (put (put c.args.lists.now (32 * c.args.e) 32 c.kept_execution-v.result.h) (32 * c.args.run.executions + 32 * (c.args.e - c.args.here.rank)) 32 c.kept_execution-v.result.pi) (32 * c.args.run.executions + 32 * (c.args.run.executions - c.args.run.openings) + 32 * (c.args.e - c.args.here.rank)) 32 c.kept_execution-v.result.psi =
+    rw (c.put_digest-3.ensures.put, c.put_digest-2.ensures.put, c.put_digest.ensures.put) in
+    λ K P so.
+    subst (λ (l : List ℕ). Stepped K P c.args.e c.args.here.rank (c.args.here.at + c.reply_length.result) c.args.lists.now l) (sym lists)
+    (kept_step so (c.requires.reached K P so) c.requires.e_lt_executions c.requires.e_kept c.hidden_party-hidden.ensures (ap (λ x. c.args.here.at + x) c.reply_length.ensures) (c.kept_execution-v.ensures.evaluates K P (kept_in so (c.requires.reached K P so) c.requires.e_lt_executions c.requires.e_kept c.hidden_party-hidden.ensures (ap (λ x. c.args.here.at + x) c.reply_length.ensures) kappa seed)) c.omega_good-good.ensures h pi psi c.requires.lists_long)

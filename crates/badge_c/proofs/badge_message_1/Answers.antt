@@ -1,0 +1,6 @@
+-- `badge_message_1`: no message is longer than 100000 bytes. Assumes nothing.
+use Rattle.badge_c.proofs.Sizes.{small_1}
+use Rattle.badge_c.proofs.badge_message_1.Goals as goal
+
+pub code-requires : goal.code-requires
+code-requires c = small_1 _ _ _ _ _ _ c.badge_message_1-length.ensures.value

@@ -1,0 +1,26 @@
+-- `check_5` tests the key, the inputs and the lent lists in this order. Assumes nothing.
+use Rattle.std.proofs.Common.{◌≡◌, sym, ap, ◌∙◌, Err, rules}
+use Rattle.refusals.specs.Refused.{verdict_of}
+use Rattle.prover.proofs.Laws.{refusal5_key, refusal5_inputs, refusal5_lent}
+use Rattle.prover.proofs.checks.check_5.Goals as goal
+
+pub returns-in_err-k-clause-verdict : goal.returns-in_err-k-clause-verdict
+returns-in_err-k-clause-verdict c =
+    let is : c.from_residual.result ≡ Err c.in_err-k.field-0.0 = search rules in
+    ap verdict_of is ∙ refusal5_key _ _ _ _ _ _ _ _ _ _ c.in_err-k.ensures.verdict
+
+pub returns-in_err-inputs_5-clause-verdict : goal.returns-in_err-inputs_5-clause-verdict
+returns-in_err-inputs_5-clause-verdict c =
+    let is : c.from_residual-in_err-inputs_5.result ≡ Err c.in_err-inputs_5.field-0.0 = search rules in
+    ap verdict_of is ∙ refusal5_inputs _ _ _ _ _ _ _ _ _ _ (sym c.in_ok-k.ensures.verdict) (c.in_err-inputs_5.ensures)
+
+pub returns-in_err-check-clause-verdict : goal.returns-in_err-check-clause-verdict
+returns-in_err-check-clause-verdict c =
+    let is : c.from_residual-in_err-check.result ≡ Err c.in_err-check.field-0.0 = search rules in
+    let of = c.in_ok-k.ensures.read.of in
+    ap verdict_of is ∙ refusal5_lent _ _ _ _ _ _ _ _ _ _ (sym c.in_ok-k.ensures.verdict) (sym c.in_ok-inputs_5.ensures) (λ long. c.in_err-check.ensures _ _ (sym of.n_is) (sym of.m_is) (sym of.parties_is) long)
+
+pub returns-clause-verdict : goal.returns-clause-verdict
+returns-clause-verdict c =
+    let of = c.in_ok-k.ensures.read.of in
+    refusal5_lent _ _ _ _ _ _ _ _ _ _ (sym c.in_ok-k.ensures.verdict) (sym c.in_ok-inputs_5.ensures) (λ long. c.in_ok-check.ensures _ _ (sym of.n_is) (sym of.m_is) (sym of.parties_is) long)

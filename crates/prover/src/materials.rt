@@ -1,0 +1,27 @@
+// What the prover's messages after the first are made from.
+
+ghost use Rattle.std.specs.Prelude.{◌≡◌, ◌+◌, ◌*◌, ◌≤◌, length};
+ghost use Rattle.lists.specs.Index.{part};
+
+use key::Numbers;
+
+// A key's numbers, the master seeds, the secret, E and the seed κ.
+#[derive(Clone, Copy)]
+pub struct Materials<'a> {
+    pub numbers: Numbers,
+    pub seeds: &'a [u8],
+    pub secret: &'a [u8],
+    pub e: &'a [u8],
+    pub kappa: &'a [u8; 16],
+    pub ghost seeds_long: { length seeds.now ≡ 16 * numbers.executions },
+    pub ghost secret_long: { length secret.now ≡ numbers.m },
+}
+
+// The master seed of execution x, among the master seeds of all.
+pub fn master(seeds: &[u8], x: usize) -> &[u8; 16]
+    requires { 16 * x + 16 ≤ length seeds.now }
+    ensures { result.now ≡ part seeds.now (16 * x) 16 }
+{
+    let from = 16 * x;
+    seeds[from..from + 16].try_into().unwrap()
+}

@@ -1,0 +1,6 @@
+use native.Mathlib.Omega.{arith}
+use Rattle.lists.specs.Tab.{done}
+use Rattle.reading.proofs.values.Values.write_bits.Goals as goal
+
+pub returns : goal.returns
+returns c = done c.loop-j.invariant (omega (arith, c.requires.out_long))

@@ -1,0 +1,147 @@
+// The joined values of an execution, for a key that was read.
+
+ghost use Rattle.std.specs.Prelude.{◌≡◌, ◌*◌, length};
+
+use key::ReadKey;
+
+// b, then d, then s, m numbers each.
+#[derive(Clone, Copy)]
+pub struct Values<'a> {
+    pub key: ReadKey<'a>,
+    pub sums: &'a [u32],
+    pub ghost sums_long: { length sums.now ≡ 3 * key.numbers.m },
+}
+
+impl Values<'_> {
+    ghost use Rattle.std.specs.Prelude.{◌≡◌, ℕ, ◌+◌, ◌%◌, ◌<◌, ◌≤◌, leb, length, MatchOption};
+    ghost use Rattle.lists.specs.Index.{every};
+    ghost use Rattle.lists.specs.Tab.{tab};
+    ghost use Rattle.numbers.specs.Output.{v_of};
+    ghost use Rattle.numbers.specs.Residue.{Residue};
+    ghost use Rattle.protocol.specs.Key.{t};
+    ghost use Rattle.protocol.specs.Prover.{solves};
+    ghost use Rattle.reading.specs.Found.{row_of, s_at, u_at, wrong_at, is_secret, uv_at};
+    ghost use Rattle.reading.specs.Keyed.{keyed};
+
+    // s(k).
+    fn s(self, k: usize) -> u32
+        requires { k < self.key.numbers.m }
+        ensures { result ≡ s_at self.entry.key.numbers.m self.entry.sums.now k }
+    {
+        self.sums[2 * self.key.numbers.m + k]
+    }
+
+    // Row l of A times s, modulo q.
+    fn row(self, l: usize) -> u32
+        requires { l < self.key.numbers.n }
+        ensures { Residue self.entry.key.numbers.modulus.q (row_of (keyed self.entry) self.entry.sums.now l % self.entry.key.numbers.modulus.q) result }
+    {
+        let m = self.key.numbers.m;
+        let mut acc = 0;
+        for j in 0..m {
+            acc = self
+                .key
+                .numbers
+                .modulus
+                .mul_add(acc, self.key.entries[l * m + j], self.s(j));
+        }
+        acc
+    }
+
+    // t(l).
+    fn t(self, l: usize) -> u32
+        requires { l < self.key.numbers.n }
+        ensures { result ≡ t (keyed self.entry) l }
+    {
+        self.key.entries[self.key.numbers.n * self.key.numbers.m + l]
+    }
+
+    // A·s = t modulo q.
+    fn is_solution(self) -> bool
+        ensures { result ≡ solves (keyed self.entry) (s_at self.entry.key.numbers.m self.entry.sums.now) }
+    {
+        for l in 0..self.key.numbers.n {
+            if self.row(l) != self.t(l) {
+                return false;
+            }
+        }
+        true
+    }
+
+    // Each s(k) is 0 or 1.
+    fn is_binary(self) -> bool
+        ensures { result ≡ every self.entry.key.numbers.m (λ j. leb (s_at self.entry.key.numbers.m self.entry.sums.now j) 1) }
+    {
+        crate::are_bits(&self.sums[2 * self.key.numbers.m..])
+    }
+
+    // A·s = t, and each s(k) is 0 or 1.
+    pub fn is_secret(self) -> bool
+        ensures { result ≡ is_secret (keyed self.entry) self.entry.sums.now }
+    {
+        self.is_solution() && self.is_binary()
+    }
+
+    // The smallest k at which d(k) isn't b(k)².
+    pub fn wrong_square(self) -> Option<usize>
+        ensures { MatchOption result (self.entry.key.numbers.m ≤ wrong_at self.entry.key.numbers.modulus.q self.entry.key.numbers.m self.entry.sums.now) (λ k. (k < self.entry.key.numbers.m) × (k ≡ wrong_at self.entry.key.numbers.modulus.q self.entry.key.numbers.m self.entry.sums.now)) }
+    {
+        let m = self.key.numbers.m;
+        for k in 0..m {
+            let b = self.sums[k];
+            if self.sums[m + k] != self.key.numbers.modulus.mul(b, b) {
+                return Some(k);
+            }
+        }
+        None
+    }
+
+    // The secret, once each s(k) is known to be 0 or 1.
+    pub fn write_bits(self, out: &mut [u8])
+        requires binary { (j : ℕ) → j < self.key.numbers.m → s_at self.key.numbers.m self.sums.now j ≤ 1 }
+        requires out_long { length out.old ≡ self.key.numbers.m }
+        ensures { out.new ≡ tab self.entry.key.numbers.m (s_at self.entry.key.numbers.m self.entry.sums.now) }
+    {
+        for (j, bit) in out.iter_mut().enumerate() {
+            *bit = self.s(j) as u8;
+        }
+    }
+
+    // u(l) = t(l) - row l of A times s.
+    fn u_at(self, l: usize) -> u32
+        requires { l < self.key.numbers.n }
+        ensures { result ≡ u_at (keyed self.entry) self.entry.sums.now l }
+    {
+        crate::difference(self.key.numbers.modulus, self.t(l) as u64, self.row(l))
+    }
+
+    // u(1) .. u(n).
+    fn write_u(self, out: &mut [u32])
+        requires { length out.old ≡ self.key.numbers.n }
+        ensures { out.new ≡ tab self.entry.key.numbers.n (u_at (keyed self.entry) self.entry.sums.now) }
+    {
+        for (l, u) in out.iter_mut().enumerate() {
+            *u = self.u_at(l);
+        }
+    }
+
+    // v(1) .. v(m).
+    fn write_v(self, out: &mut [u32])
+        requires { length out.old ≡ self.key.numbers.m }
+        ensures { out.new ≡ tab self.entry.key.numbers.m (v_of self.entry.key.numbers.modulus.q (s_at self.entry.key.numbers.m self.entry.sums.now)) }
+    {
+        for (j, v) in out.iter_mut().enumerate() {
+            *v = crate::v_at(self.key.numbers.modulus, self.s(j));
+        }
+    }
+
+    // u(1) .. u(n), then v(1) .. v(m).
+    pub fn write_errors(self, out: &mut [u32])
+        requires { length out.old ≡ self.key.numbers.n + self.key.numbers.m }
+        ensures { out.new ≡ uv_at (keyed self.entry) self.entry.sums.now }
+    {
+        let (u, v) = out.split_at_mut(self.key.numbers.n);
+        self.write_u(u);
+        self.write_v(v);
+    }
+}
