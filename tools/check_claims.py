@@ -51,9 +51,10 @@ def called_from_c(name):
 
 def check_functions(found):
     named = named_functions("docs/CLAIMS.md")
+    declared = {(name.split("::")[-2], f.name) for name, f in found.items() if f.has("ensures")}
     for name, function in found.items():
         called = (function.file.name, function.name) != ("main.rt", "main")
-        of_trait = (function.trait, function.name) in (("Display", "fmt"), ("Default", "default"))     # the trait's own clauses hold of these
+        of_trait = (function.trait, function.name) in {("Display", "fmt"), ("Default", "default"), *declared}     # the trait's own clauses hold of these
         expect(function.has("ensures") or of_trait or not called, f"{name} has no `ensures`: whoever calls it learns nothing")
         entry = function.is_for_c() or name in ENTRIES or called_from_c(name) or (name in named and not function.parameters())
         expect(not (entry and function.has("requires")), f"{name} is an entry point and has a `requires`")

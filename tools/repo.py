@@ -9,8 +9,8 @@ import re
 ROOT = pathlib.Path(__file__).resolve().parent.parent
 COMMENT = {".rt": re.compile(r"^[ \t]*//[^\n]*$", re.M), ".antt": re.compile(r"^[ \t]*--(?: [^\n]*)?$", re.M)}
 TOKEN = r"[^\s(){}\[\].;,]+|\[\]"
-GHOST_FIELD = re.compile(r"^[ \t]+(?:pub )?ghost \w+(?:: (?=.*\},$)| = (?=.*\};$))\{", re.M)     # a fact of a type, or a member that a trait asks for
-IMPL = re.compile(r"^impl(?:<[^{]*?>)? (?:([\w:]+)(?:<[^{]*?>)? for )?(\w+)[^{]*\{", re.M)
+GHOST_FIELD = re.compile(r"^[ \t]+(?:pub )?ghost \w+(?:: (?=.*\}[,;]$)| = (?=.*\};$))\{", re.M)     # a fact of a type, or a member of a trait
+IMPL = re.compile(r"^(?:impl(?:<[^{]*?>)? (?:([\w:]+)(?:<[^{]*?>)? for )?|(?:pub )?trait )(\w+)[^{]*\{", re.M)
 GHOST_USE = re.compile(r"\bghost\s+use\s+([^\s{};]+)\.\{([^{};]*)\}\s*;")
 CODE_USE = re.compile(r"^[ \t]*(?:pub\s+)?use\s+[\w:]+(?:::\{[\w:,\s]*\})?(?:\s+as\s+\w+)?\s*;", re.M)
 SPEC_USE = re.compile(r"^[ \t]*(?:unfoldable\s+)?(?:pub\s+)?use\s+([^\s{}]+?)(?:\.\{([^{}]*)\}|\s+as\s+(\S+))[ \t]*$", re.M)
@@ -97,9 +97,15 @@ def closing(text, brace):
 
 
 def body_start(text, at):
-    """Where the body of a function starts: at the first brace that no `requires` and no `ensures` opens, be it with a name or without."""
+    """Where the body of a function starts: at the first brace that no `requires` and no `ensures` opens, be it with a name or without. A
+    function that a trait declares has none, and ends with a semicolon."""
     while True:
         brace = text.find("{", at)
+        ended = text.find(";", at)
+        while 0 <= ended and text.count("[", at, ended) > text.count("]", at, ended):
+            ended = text.find(";", ended + 1)
+        if 0 <= ended < brace:
+            return ended
         if brace < 0 or not re.search(rf"\b{CLAUSE}$", text[at:brace]):
             return brace if brace >= 0 else len(text)
         at = closing(text, brace) + 1
@@ -118,7 +124,7 @@ def module_path(file):
 
 
 def owner(text, at):
-    """The type and the trait of the block of methods that a function at that place stands in."""
+    """The type and the trait of the block of methods, or the trait that declares them, that a function at that place stands in."""
     for m in IMPL.finditer(text):
         if m.end() <= at < closing(text, m.end() - 1):
             return m.group(2), (m.group(1) or "").split("::")[-1]

@@ -1,13 +1,13 @@
 -- What two transcripts are refused for, test by test.
 -- Assumes nothing.
 use Prim.Native.Nat.{ℕ}
-use mathlib.Core.Path.{◌≡◌, refl, sym, ◌∙◌, ap}
+use mathlib.Core.Path.{◌≡◌, sym, ◌∙◌, ap}
 use mathlib.Core.Bool.{Bool, true, false}
 use mathlib.Core.List.{List}
 use Rattle.lists.specs.Index.{same}
 use Rattle.std.specs.Prelude.{Result, Ok, Err}
 use Rattle.std.specs.Result.{is_ok}
-use Rattle.lists.specs.TestLaws.{clash, pick_true, pick_false}
+use Rattle.lists.specs.TestLaws.{pick_true, pick_false}
 use Rattle.lists.specs.Check.{Verdict, accepted, refused, first}
 use Rattle.protocol.specs.Key.{Key}
 use Rattle.protocol.specs.Transcript.{parts_of}
@@ -23,11 +23,6 @@ pub accepted_by : {A : Type 0} (r : Result A Refusal) {v : Verdict} {b : Bool} �
 unfolding is_accepted
 accepted_by (Ok a) e w = ap is_accepted (sym e) ∙ sym w
 accepted_by (Err n) e w = ap is_accepted (sym e) ∙ sym w
-
-pub run_accepted : (v : Verdict) → is_accepted v ≡ true → v ≡ accepted
-unfolding is_accepted
-run_accepted accepted e = refl
-run_accepted (refused n) e = absurd (clash e refl)
 
 module _ (K : Key) (x y : List ℕ) where
   pub first_refused : is_accepted (first (run_checks K x)) ≡ false → refused 20 ≡ first (fork_checks K x y)

@@ -14,7 +14,8 @@ use judge::run;
 use key::ReadKey;
 use refusals::Refusal;
 
-// The first number that applies to two transcripts. Where there is none, each list has the inputs of a transcript's list hashes.
+// The first number that applies to two transcripts. Where there is none, each list has the inputs of a transcript's list hashes. Each list
+// is a parameter of its own: of a struct that holds it as `&mut` the contract would also say that it is still the lent one.
 pub fn check(
     key: ReadKey,
     run1: &[u8],

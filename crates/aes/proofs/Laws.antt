@@ -4,6 +4,9 @@ use Rattle.std.proofs.Common.{◌≡◌, refl, sym, ap, ◌∙◌, List, [], ◌
 use Rattle.std.specs.Int.Bits.{xor_zero_r}
 use Rattle.std.proofs.Math.ListN.{get_or-append}
 use Rattle.std.proofs.lemmas.List.{get_or-append-add}
+use Rattle.std.proofs.Math.Decide.{dec_lt}
+use denote.Param.Members.{Mut, Called}
+use Rattle.std.specs.Array.{IsFromFnResult, IsFromFnResultFrom}
 use Rattle.lists.specs.Tab.{tab, tab-at, tab-length, tab_ext, list_is_tab}
 use Rattle.sbox.specs.Sbox.{sbox_of}
 use Rattle.aes.specs.Fips197.{at, sub_bytes, shift_rows, mix_byte, mix_columns, word, xor_word, rot_word, sub_word, x_power, rcon, temp, words}
@@ -37,26 +40,26 @@ mix_at s i a b c d h ea eb ec ed =
 pub record Column (m : List ℕ) (i a b d e : ℕ) : Type 0 where
   pub first : mix_byte a b d e ≡ get_or m i 0
   pub second : mix_byte b d e a ≡ get_or m (i + 1) 0
-  pub third : mix_byte d e a b ≡ get_or m (i + 1 + 1) 0
-  pub fourth : mix_byte e a b d ≡ get_or m (i + 1 + 1 + 1) 0
+  pub third : mix_byte d e a b ≡ get_or m (i + 2) 0
+  pub fourth : mix_byte e a b d ≡ get_or m (i + 3) 0
 
 module _ (y : List ℕ) (c a b d e : ℕ) (h : c < 4) (ha : a ≡ get_or y (4 * c) 0) (hb : b ≡ get_or y (4 * c + 1) 0)
-    (hd : d ≡ get_or y (4 * c + 1 + 1) 0) (he : e ≡ get_or y (4 * c + 1 + 1 + 1) 0) where
+    (hd : d ≡ get_or y (4 * c + 2) 0) (he : e ≡ get_or y (4 * c + 3) 0) where
   pub mixed : Column (mix_columns y) (4 * c) a b d e
   mixed =
       record {
         first =
             (λ z. mix_byte (ha z) (hb z) (hd z) (he z))
-            ∙ sym (mix_at y (4 * c) (4 * c) (4 * c + 1) (4 * c + 1 + 1) (4 * c + 1 + 1 + 1) (omega arith) (omega arith) (omega arith) (omega arith) (omega arith));
+            ∙ sym (mix_at y (4 * c) (4 * c) (4 * c + 1) (4 * c + 2) (4 * c + 3) (omega arith) (omega arith) (omega arith) (omega arith) (omega arith));
         second =
             (λ z. mix_byte (hb z) (hd z) (he z) (ha z))
-            ∙ sym (mix_at y (4 * c + 1) (4 * c + 1) (4 * c + 1 + 1) (4 * c + 1 + 1 + 1) (4 * c) (omega arith) (omega arith) (omega arith) (omega arith) (omega arith));
+            ∙ sym (mix_at y (4 * c + 1) (4 * c + 1) (4 * c + 2) (4 * c + 3) (4 * c) (omega arith) (omega arith) (omega arith) (omega arith) (omega arith));
         third =
             (λ z. mix_byte (hd z) (he z) (ha z) (hb z))
-            ∙ sym (mix_at y (4 * c + 1 + 1) (4 * c + 1 + 1) (4 * c + 1 + 1 + 1) (4 * c) (4 * c + 1) (omega arith) (omega arith) (omega arith) (omega arith) (omega arith));
+            ∙ sym (mix_at y (4 * c + 2) (4 * c + 2) (4 * c + 3) (4 * c) (4 * c + 1) (omega arith) (omega arith) (omega arith) (omega arith) (omega arith));
         fourth =
             (λ z. mix_byte (he z) (ha z) (hb z) (hd z))
-            ∙ sym (mix_at y (4 * c + 1 + 1 + 1) (4 * c + 1 + 1 + 1) (4 * c) (4 * c + 1) (4 * c + 1 + 1) (omega arith) (omega arith) (omega arith) (omega arith) (omega arith));
+            ∙ sym (mix_at y (4 * c + 3) (4 * c + 3) (4 * c) (4 * c + 1) (4 * c + 2) (omega arith) (omega arith) (omega arith) (omega arith) (omega arith));
       }
 
 -- Column c of MixColumns, ShiftRows and SubBytes together.
@@ -67,8 +70,8 @@ column s c a b d e h ha hb hd he =
     mixed (shift_rows (sub_bytes s)) c a b d e h
     (ha ∙ sym (sub_shift s (4 * c) (4 * c) (omega arith) (omega arith)))
     (hb ∙ sym (sub_shift s (4 * c + 1) ((4 * c + 5) % 16) (omega arith) (omega arith)))
-    (hd ∙ sym (sub_shift s (4 * c + 1 + 1) ((4 * c + 10) % 16) (omega arith) (omega arith)))
-    (he ∙ sym (sub_shift s (4 * c + 1 + 1 + 1) ((4 * c + 15) % 16) (omega arith) (omega arith)))
+    (hd ∙ sym (sub_shift s (4 * c + 2) ((4 * c + 10) % 16) (omega arith) (omega arith)))
+    (he ∙ sym (sub_shift s (4 * c + 3) ((4 * c + 15) % 16) (omega arith) (omega arith)))
 
 -- A word that is turned.
 pub turned_word : (a : List ℕ) (j x0 x1 x2 x3 p : ℕ) → x0 ≡ sbox_of (get_or a 0 0) → x1 ≡ sbox_of (get_or a 1 0) → x2 ≡ sbox_of (get_or a 2 0)
@@ -146,3 +149,19 @@ next_word w key x rest n long so e =
     rw (← append_assoc (take k w) x rest)
     (take_at (take k w ++ x) rest (16 + 4 * (n + 1)) (simp length-append (omega arith))
     ∙ rw (add-one n) (λ z. so z ++ (e ∙ (λ y. xor_word (sym last y) (sym temps y))) z))
+
+-- What a call of h at each number below m makes, one after the other.
+made_at : {F : Type 0} (g : Mut F (ℕ × Unit {0}) ℕ) (f : F) (h : ℕ → ℕ) (m : ℕ)
+    → ((k y : ℕ) (q : F) → k < m → Called g f (k, tt) y q → (y ≡ h k) × (q ≡ f))
+    → (n i : ℕ) (p : F) (ys : List ℕ) → p ≡ f → i + n ≡ m → IsFromFnResultFrom g p ys i n → (k : ℕ) → i ≤ k → k < m → get_or ys k 0 ≡ h k
+made_at g f h m one zero i p ys e s r k a b = absurd (omega arith)
+made_at {F} g f h m one (suc n) i p ys e s r k a b =
+    let here = one i r.1 r.0 (omega arith) (subst (λ (u : F). Called g u (i, tt) r.1 r.0) e r.3) in
+    elim (dec_lt i k) [
+      | yes later ↦ made_at g f h m one n (i + 1) r.0 ys here.1 (omega arith) r.4 k (omega arith) b
+      | no now ↦ let same : k ≡ i = omega arith in ap (λ j. get_or ys j 0) same ∙ r.2.1 0 ∙ here.0 ∙ ap h (sym same)
+    ]
+
+pub made : {F : Type 0} (g : Mut F (ℕ × Unit {0}) ℕ) (f : F) (h : ℕ → ℕ) (m : ℕ) (ys : List ℕ) → IsFromFnResult g f ys m
+    → ((k y : ℕ) (q : F) → k < m → Called g f (k, tt) y q → (y ≡ h k) × (q ≡ f)) → ys ≡ tab m h
+made g f h m ys r one = list_is_tab m ys h r.long (λ k b. made_at g f h m one m 0 f ys refl (omega arith) r.each k (omega arith) b)

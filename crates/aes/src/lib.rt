@@ -1,9 +1,12 @@
-// AES-128, FIPS 197: the key schedule and the encryption of one block.
+// AES-128, FIPS 197: the key schedule and the encryption of one block. A round's number n is a bare index with its bound beside it: a type
+// for it would hold that one number, which each contract would read from a field.
 #![tactic(auto)]
 
 ghost use Rattle.std.specs.Prelude.{◌≡◌, ◌+◌, ◌<◌};
 ghost use Rattle.aes.specs.Fips197.{sub_bytes, shift_rows, mix_byte, mix_columns, add_key, x_power, word, xor_word, sub_word, rot_word, rcon, key_expansion, cipher, aes128};
 ghost use Rattle.aes.specs.Example.{key_b, input_b, output_b};
+
+use std::array;
 
 // x to the powers 0 to 9, the constants of the key schedule.
 static POWERS: [u8; 10] = [0x01, 0x02, 0x04, 0x08, 0x10, 0x20, 0x40, 0x80, 0x1b, 0x36];
@@ -21,15 +24,14 @@ fn word(w: &[u8; 176], i: usize) -> [u8; 4]
     requires { i < 44 }
     ensures { result ≡ word w.now i }
 {
-    let at = 4 * i;
-    [w[at], w[at + 1], w[at + 2], w[at + 3]]
+    array::from_fn(|j| w[4 * i + j])
 }
 
 #[tactic(auto, unfolding(crate::specs::Fips197::xor_word, lists::specs::Tab::tab))]
 fn xor_word(a: [u8; 4], b: [u8; 4]) -> [u8; 4]
     ensures { result ≡ xor_word a b }
 {
-    [a[0] ^ b[0], a[1] ^ b[1], a[2] ^ b[2], a[3] ^ b[3]]
+    array::from_fn(|j| a[j] ^ b[j])
 }
 
 // SubWord and RotWord of a word, and Rcon[j + 1].
@@ -73,19 +75,15 @@ pub fn mix(a: u8, b: u8, c: u8, d: u8) -> u8
 }
 
 // AddRoundKey.
-#[tactic(auto, using(lists::specs::Tab::start, lists::specs::Tab::more, lists::specs::Tab::done), unfolding(crate::specs::Fips197::add_key))]
 fn add_key(w: &[u8; 176], n: usize, s: &[u8; 16]) -> [u8; 16]
     requires { n < 11 }
     ensures { result ≡ add_key w.now n s.now }
 {
-    let mut r = [0u8; 16];
-    for i in 0..16 {
-        r[i] = s[i] ^ w[16 * n + i];
-    }
-    r
+    array::from_fn(|i| s[i] ^ w[16 * n + i])
 }
 
-// A round of Algorithm 1, column by column: the four steps at once, with no state between them.
+// A round of Algorithm 1, column by column: the four steps at once, with no state between them. The four rows of the matrix stand one by
+// one, as in the standard.
 fn round(w: &[u8; 176], n: usize, s: &[u8; 16]) -> [u8; 16]
     requires { n < 11 }
     ensures { result ≡ add_key w.now n (mix_columns (shift_rows (sub_bytes s.now))) }
@@ -97,13 +95,10 @@ fn round(w: &[u8; 176], n: usize, s: &[u8; 16]) -> [u8; 16]
         let b = sbox::sub(s[(i + 5) % 16]);
         let d = sbox::sub(s[(i + 10) % 16]);
         let e = sbox::sub(s[(i + 15) % 16]);
-        let j = i + 1;
-        let k = j + 1;
-        let l = k + 1;
         r[i] = mix(a, b, d, e) ^ w[16 * n + i];
-        r[j] = mix(b, d, e, a) ^ w[16 * n + j];
-        r[k] = mix(d, e, a, b) ^ w[16 * n + k];
-        r[l] = mix(e, a, b, d) ^ w[16 * n + l];
+        r[i + 1] = mix(b, d, e, a) ^ w[16 * n + (i + 1)];
+        r[i + 2] = mix(d, e, a, b) ^ w[16 * n + (i + 2)];
+        r[i + 3] = mix(e, a, b, d) ^ w[16 * n + (i + 3)];
     }
     r
 }
@@ -112,11 +107,7 @@ fn round(w: &[u8; 176], n: usize, s: &[u8; 16]) -> [u8; 16]
 fn last_round(w: &[u8; 176], s: &[u8; 16]) -> [u8; 16]
     ensures { result ≡ add_key w.now 10 (shift_rows (sub_bytes s.now)) }
 {
-    let mut r = [0u8; 16];
-    for i in 0..16 {
-        r[i] = sbox::sub(s[(i + 4 * (i % 4)) % 16]) ^ w[160 + i];
-    }
-    r
+    array::from_fn(|i| sbox::sub(s[(i + 4 * (i % 4)) % 16]) ^ w[160 + i])
 }
 
 // Cipher: one block, under the key schedule w.

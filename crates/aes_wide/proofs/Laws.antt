@@ -1,11 +1,11 @@
 -- Sixteen blocks side by side: what stands at each of the 256 places, and the two loops that write them, a row or a column of rows at a time.
 -- Assumes nothing.
-use Rattle.std.proofs.Common.{◌≡◌, refl, sym, ap, ◌∙◌, subst, List, ℕ, ◌+◌, ◌*◌, ◌-◌, ◌/◌, ◌%◌, ◌^◌, ◌≤◌, ◌<◌, ◌++◌, add-one, arith, bit_xor, length, get_or, set, take, drop, replicate, length-set, get_or-set_same, get_or-set_other, lt_of_lt_of_le, pow-add}
+use Rattle.std.proofs.Common.{◌≡◌, refl, sym, ap, ◌∙◌, subst, List, [], ◌∷◌, ℕ, ◌+◌, ◌*◌, ◌-◌, ◌/◌, ◌%◌, ◌^◌, ◌≤◌, ◌<◌, ◌++◌, add-one, arith, bit_xor, length, get_or, set, take, drop, replicate, length-set, get_or-set_same, get_or-set_other, pow-add}
 use Rattle.std.proofs.lemmas.List.{length-append, length-drop, length-take-le, get_or-append-add, get_or-take, get_or-replicate}
 use Rattle.std.proofs.Math.ListN.{get_or-append}
 use Rattle.std.proofs.Math.Decide.{ℕ_discrete, dec_lt}
-use Rattle.std.proofs.Math.Nat.{div-eq_of_lt, div-div-eq-div-mul}
-use Rattle.std.proofs.Math.Pow.{pow_mono}
+use Rattle.std.proofs.Math.Nat.{div-div-eq-div-mul}
+use Rattle.std.specs.Int.{to_be_bytes, w128}
 use Rattle.lists.specs.Tab.{tab, tab-length, tab-at, list_is_tab, Filling, more, counted, done}
 use Rattle.lists.specs.Test.{same}
 use Rattle.sbox.specs.Sbox.{sbox_of}
@@ -191,7 +191,42 @@ columns_end {r} {c} {g} so h size =
     lanes r g size
     (list_is_tab 256 r (sideways g) so.long (λ k q. so.filled k (omega arith) (λ from. let z : ⊥ = omega arith in absurd z)))
 
+-- ---- a block at a time, its bytes in their rows
+
+-- The blocks before l are written, and of block l the first p bytes.
+pub record Strands (r : List ℕ) (l p : ℕ) (g : ℕ → List ℕ) : Type 0 where
+  pub long : length r ≡ 256
+  pub within : p ≤ 16
+  pub filled : (k : ℕ) → k < 256 → 16 * (k % 16) + k / 16 < 16 * l + p → get_or r k 0 ≡ sideways g k
+
+pub strand_more : {r : List ℕ} {l p : ℕ} {g : ℕ → List ℕ} {v : ℕ} → Strands r l p g → l < 16 → p < 16 → v ≡ get_or (g l) p 0 → Strands (set r (16 * p + l) v) l (p + 1) g
+strand_more {r} {l} {p} {g} {v} so hl hp e =
+    let long : length r ≡ 256 = so.long in
+    record {
+      long = length-set r (16 * p + l) v ∙ so.long;
+      within = omega arith;
+      filled =
+          λ k h q.
+          put r (16 * p + l) v k (sideways g) (omega arith) (e ∙ sideways-at g p l (16 * p + l) hl refl)
+          (λ other. so.filled k h (not_that l p k hl hp h q other));
+    }
+  where
+    not_that : (l p k : ℕ) → l < 16 → p < 16 → k < 256 → 16 * (k % 16) + k / 16 < 16 * l + (p + 1) → (k ≡ 16 * p + l → ⊥) → 16 * (k % 16) + k / 16 < 16 * l + p
+    not_that l p k hl hp h q other = omega arith
+
+pub strands_end : {r : List ℕ} {l : ℕ} {g : ℕ → List ℕ} → Strands r l 0 g → 16 ≤ l → ((k : ℕ) → length (g k) ≡ 16) → Lanes r g
+strands_end {r} {l} {g} so h size = lanes r g size (list_is_tab 256 r (sideways g) so.long (λ k q. so.filled k q (omega arith)))
+
 -- ---- the steps of the cipher in one block
+
+-- The counter's bytes, as std writes them.
+pub counter_bytes : (j : ℕ) → to_be_bytes w128 j ≡ counter j
+unfolding counter tab
+counter_bytes j =
+    let last : j % 256 ≡ j / 1 % 256 = omega arith in
+    λ z.
+    j / 2 ^ 120 % 256 ∷ j / 2 ^ 112 % 256 ∷ j / 2 ^ 104 % 256 ∷ j / 2 ^ 96 % 256 ∷ j / 2 ^ 88 % 256 ∷ j / 2 ^ 80 % 256 ∷ j / 2 ^ 72 % 256 ∷ j / 2 ^ 64 % 256
+    ∷ j / 2 ^ 56 % 256 ∷ j / 2 ^ 48 % 256 ∷ j / 2 ^ 40 % 256 ∷ j / 2 ^ 32 % 256 ∷ j / 2 ^ 24 % 256 ∷ j / 2 ^ 16 % 256 ∷ j / 2 ^ 8 % 256 ∷ last z ∷ []
 
 pub counter_at : (j p : ℕ) → p < 16 → j / 2 ^ (8 * (15 - p)) % 256 ≡ get_or (counter j) p 0
 unfolding counter
@@ -200,13 +235,6 @@ counter_at j p h = sym (tab-at 16 (λ i. j / 2 ^ (8 * (15 - i)) % 256) p h)
 pub counter_size : (j : ℕ) → length (counter j) ≡ 16
 unfolding counter
 counter_size j = tab-length 16 (λ i. j / 2 ^ (8 * (15 - i)) % 256)
-
--- The upper 8 bytes of a number of 64 bits are 0.
-pub counter-upper : (j p : ℕ) → p < 8 → j < 2 ^ 64 → 0 ≡ j / 2 ^ (8 * (15 - p)) % 256
-counter-upper j p h small =
-    let high : 64 ≤ 8 * (15 - p) = omega arith in
-    let none : j / 2 ^ (8 * (15 - p)) ≡ 0 = div-eq_of_lt (lt_of_lt_of_le small (pow_mono high)) in
-    rw none
 
 pub key_size : (w s : List ℕ) (n : ℕ) → length (add_key w n s) ≡ 16
 unfolding add_key
@@ -257,8 +285,8 @@ module _ (s : List ℕ) (c l : ℕ) (h : c < 4) where
       mixed (lane s l) c (get_or s (64 * c + l) 0) (get_or s (64 * c + l + 16) 0) (get_or s (64 * c + l + 32) 0) (get_or s (64 * c + l + 48) 0) h
       (byte (4 * c) (64 * c + l) (omega arith) (omega arith))
       (byte (4 * c + 1) (64 * c + l + 16) (omega arith) (omega arith))
-      (byte (4 * c + 1 + 1) (64 * c + l + 32) (omega arith) (omega arith))
-      (byte (4 * c + 1 + 1 + 1) (64 * c + l + 48) (omega arith) (omega arith))
+      (byte (4 * c + 2) (64 * c + l + 32) (omega arith) (omega arith))
+      (byte (4 * c + 3) (64 * c + l + 48) (omega arith) (omega arith))
 
 -- Block l of column c is mixed, and the key added.
 module _ (w s r : List ℕ) (n c l m0 m1 m2 m3 : ℕ) (hc : c < 4) (hl : l < 16) where
@@ -295,8 +323,8 @@ module _ (w s r : List ℕ) (n c l m0 m1 m2 m3 : ℕ) (hc : c < 4) (hl : l < 16)
       so hc hl
       (value m0 (4 * c) (16 * n + 4 * c) (64 * c + l) (omega arith) refl (omega arith) (e0 ∙ col.first))
       (value m1 (4 * c + 1) (16 * n + (4 * c + 1)) (64 * c + l + 16) (omega arith) refl (omega arith) (e1 ∙ col.second))
-      (value m2 (4 * c + 1 + 1) (16 * n + (4 * c + 2)) (64 * c + l + 32) (omega arith) (omega arith) (omega arith) (e2 ∙ col.third))
-      (value m3 (4 * c + 1 + 1 + 1) (16 * n + (4 * c + 3)) (64 * c + l + 48) (omega arith) (omega arith) (omega arith) (e3 ∙ col.fourth))
+      (value m2 (4 * c + 2) (16 * n + (4 * c + 2)) (64 * c + l + 32) (omega arith) (omega arith) (omega arith) (e2 ∙ col.third))
+      (value m3 (4 * c + 3) (16 * n + (4 * c + 3)) (64 * c + l + 48) (omega arith) (omega arith) (omega arith) (e3 ∙ col.fourth))
 
 -- ---- blocks that differ in few bytes
 

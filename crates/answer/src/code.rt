@@ -1,4 +1,4 @@
-// The calls' answers as one number.
+// The calls' answers as one number, which is what C gets. No From: a Result is std's type, and an own type for each would be no plainer.
 
 ghost use Rattle.std.specs.Prelude.{◌≡◌, ◌≤◌, pos, neg_ℤ};
 ghost use Rattle.std.specs.Int.{w64};
@@ -11,14 +11,6 @@ ghost use Rattle.answer.specs.Codes.{code_of, length_of, finding_code};
 
 use reading::Finding;
 use refusals::Refusal;
-
-// A length.
-fn length_code(n: usize) -> i64
-    requires { n ≤ 100000 }
-    ensures { result ≡ pos n }
-{
-    n as i64
-}
 
 // Minus a refusal's number.
 pub fn refusal_code(r: Refusal) -> i64
@@ -43,7 +35,7 @@ pub fn code(answer: Result<usize, Refusal>) -> i64
     ensures { (result ≡ code_of (said answer)) × SFits w64 result }
 {
     match answer {
-        Ok(n) => length_code(n),
+        Ok(n) => n as i64,
         Err(r) => refusal_code(r),
     }
 }

@@ -25,7 +25,7 @@ fn row(finding: Finding) -> [u32; 8]
             [
                 kind.number(),
                 execution as u32,
-                party as u32,
+                party.unwrap_or(0) as u32,
                 length as u32,
                 0,
                 0,
@@ -44,7 +44,7 @@ fn row(finding: Finding) -> [u32; 8]
     }
 }
 
-// The eight numbers of a finding to the front of a list; a refusal leaves it as it is.
+// The eight numbers of a finding to the front of the list that C lends; a refusal leaves it as it is.
 pub fn write_row(r: Result<Finding, Refusal>, answer: &mut [u32])
     requires in_bounds { 8 ≤ length answer.old }
     requires narrow { Narrow (means r) }

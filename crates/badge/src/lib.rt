@@ -1,6 +1,6 @@
 // The calls as Rust has them: the judge, the prover's messages as the length that was written, and the pair reader's finding, or why
 // not. Those over lent lists are the functions of the crates below; those here have work lists of their own. Crate `badge_c` gives all
-// of them to C. Their parameters are those of the C calls.
+// of them to C. Their parameters are those of the C calls. Work lists have the largest size, since there is no heap.
 #![tactic(auto)]
 
 pub mod messages;

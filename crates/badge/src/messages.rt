@@ -1,4 +1,5 @@
-// The calls whose work lists are their own.
+// The calls whose work lists are their own. The parameters, the place in the output among them, are those of the C calls. Each hands other
+// parameters on, so that one over all four would be no shorter. Work lists have the largest size, since there is no heap.
 
 ghost use Rattle.std.specs.Prelude.{◌≡◌, length};
 ghost use Rattle.protocol.specs.Key.{key_of};

@@ -1,4 +1,5 @@
-// The pair reader, with the finding's numbers in a list as well.
+// The pair reader, with the finding's numbers in a list as well. The parameters are those of the C calls. Work lists have the largest size,
+// since there is no heap.
 
 ghost use Rattle.std.specs.Prelude.{◌≡◌, leb, length};
 ghost use Rattle.protocol.specs.Pair.{says};

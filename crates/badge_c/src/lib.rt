@@ -1,4 +1,5 @@
-// The calls under their names in C, as include/badge.h declares them: what crate `badge` or a crate below answers, as one number.
+// The calls under their names in C, as include/badge.h declares them: what crate `badge` or a crate below answers, as one number. Numbers
+// for answers, places beside lists, two lists of a kind and long lists of parameters are that interface.
 #![tactic(auto)]
 
 ghost use Rattle.std.specs.Prelude.{◌≡◌, length};

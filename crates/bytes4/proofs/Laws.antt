@@ -4,8 +4,9 @@ use Rattle.std.proofs.lemmas.Slice.{take-put_mid}
 use borrow.Rule.Slice.PartMut.{put_mid}
 use lib.Pointwise.{pointwise}
 use mathlib.Core.Bool.{◌&&◌}
-use Rattle.lists.specs.Index.{pick, same}
-use Rattle.lists.specs.Bytes.{le4, words}
+use Rattle.std.specs.Int.{from_le_bytes, w32}
+use Rattle.lists.specs.Index.{pick, same, part}
+use Rattle.lists.specs.Bytes.{le4, words, num, rd4}
 use Rattle.lists.specs.CatLaws.{le4-length, words_append}
 
 words_more : (xs : List ℕ) (i : ℕ) → i < length xs → words (take (i + 1) xs) ≡ words (take i xs) ++ le4 (get_or xs i 0)
@@ -30,3 +31,8 @@ pointwise_same (x ∷ xs) (y ∷ ys) = by_first (eqb x y) (pointwise_same xs ys)
     by_first : (b : Bool) {r s : Bool} → r ≡ s → (b && r) ≡ pick b s false
     by_first true e = e
     by_first false e = refl
+
+-- a number of four bytes as the library reads it
+pub read_four : (x : List ℕ) (j : ℕ) → from_le_bytes w32 (part x (4 * j) 4) ≡ num x j
+unfolding num rd4
+read_four x j = omega arith

@@ -1,18 +1,19 @@
 // Numbers of four bytes, little-endian (document 01), in lists of bytes, and lists of bytes compared.
 #![tactic(auto)]
 
-ghost use Rattle.std.specs.Prelude.{◌≡◌, ◌+◌, ◌*◌, ◌≤◌, length};
+ghost use Rattle.std.specs.Prelude.{◌≡◌, ◌+◌, ◌*◌, ◌/◌, ◌≤◌, ltb, length};
+ghost use Rattle.lists.specs.Tab.{tab};
 ghost use Rattle.lists.specs.Bytes.{le4, words, num};
-ghost use Rattle.lists.specs.Index.{same};
+ghost use Rattle.lists.specs.Index.{every, same};
 ghost use Rattle.lists.specs.ByteList.{Bytes};
 
-// Number j of the list, the first being number 0.
+// Number j of the list, the first being number 0: one of a header or a row by its place, where a whole list is read by `read_numbers`.
 pub fn le32(b: &[u8], j: usize) -> u32
     requires { 4 * j + 4 ≤ length b.now }
     ensures { result ≡ num b.now j }
 {
-    let at = 4 * j;
-    u32::from_le_bytes([b[at], b[at + 1], b[at + 2], b[at + 3]])
+    let four = b[4 * j..].first_chunk::<4>().unwrap();
+    u32::from_le_bytes(*four)
 }
 
 // The two lists have the same bytes.
@@ -31,7 +32,8 @@ pub fn put32(x: u32, out: &mut [u8])
     out.copy_from_slice(&x.to_le_bytes());
 }
 
-// Each number of a list in four bytes.
+// Each number of a list in four bytes. The parts are cut out by place: of what a turn of `chunks_exact_mut` wrote nothing is known when
+// the loan ends.
 pub fn put_numbers(xs: &[u32], out: &mut [u8])
     requires { length out.old ≡ 4 * length xs.now }
     ensures { out.new ≡ words xs.now }
@@ -39,6 +41,25 @@ pub fn put_numbers(xs: &[u32], out: &mut [u8])
     for (k, x) in xs.iter().enumerate() {
         put32(*x, &mut out[4 * k..4 * k + 4]);
     }
+}
+
+// The numbers of a list of bytes. Such loops, each place from its own number, stand in other crates too: one function for all would take
+// the number as a closure, and each call of it be as long as the two lines of the loop.
+pub fn read_numbers(bytes: &[u8], out: &mut [u32])
+    requires { length bytes.now ≡ 4 * length out.old }
+    ensures { out.new ≡ tab (length out.old) (num bytes.now) }
+{
+    for (j, number) in out.iter_mut().enumerate() {
+        *number = le32(bytes, j);
+    }
+}
+
+// Every number of a list of bytes is below q.
+pub fn numbers_below(bytes: &[u8], q: u32) -> bool
+    ensures { result ≡ every (length bytes.now / 4) (λ j. ltb (num bytes.now j) q) }
+{
+    let (numbers, _) = bytes.as_chunks();
+    numbers.iter().all(|&four| u32::from_le_bytes(four) < q)
 }
 
 // Every list that is lent as bytes is a list of bytes. The read is how the proof comes to know it; nothing is done with the byte.

@@ -3,17 +3,17 @@
 use Prim.Native.Nat.{ℕ, zero, suc, ◌+◌, ◌*◌, ◌-◌, ◌≤◌, ◌<◌}
 use mathlib.Core.Path.{◌≡◌, refl, sym, ap, ap₂, ◌∙◌, subst}
 use mathlib.Core.Logic.{◌⊎◌, inl, inr}
-use mathlib.Core.Bool.{Bool, true, false, not}
+use mathlib.Core.Bool.{Bool, true, false, not, cond}
 use mathlib.Core.List.{List, [], ◌∷◌, ◌++◌, append_assoc}
 use native.Mathlib.Nat.{not-suc-le-zero, le_of_suc-le-suc, eq-or-lt_of_le, mul-le-mul}
 use native.Mathlib.Numerals.{add-one}
 use native.Mathlib.Omega.{arith}
 use lib.Dec.{eqb}
-use lib.ListN.{length, drop, get_or}
 use borrow.Author.Tests.{eqb-false, eq-eqb, ne_eqb, not-true}
 use Rattle.std.specs.Prelude.{Option, Some, None, IfSome}
-use Rattle.std.proofs.Common.{drop-cons, drop_of_length-le}
-use Rattle.lists.specs.Index.{pick, part, cat, same, holds}
+use Rattle.std.specs.List.{find}
+use Rattle.std.specs.Option.{option_map}
+use Rattle.lists.specs.Index.{pick, part, cat, same}
 use Rattle.lists.specs.TestLaws.{pick_true, pick_false, holds-each}
 use Rattle.lists.specs.CatLaws.{cat_ext}
 use Rattle.protocol.specs.Key.{Key, kept_count}
@@ -28,22 +28,10 @@ use Rattle.inputs.specs.Layout.{Written, execution_size, Γ_from, Γ_size, Ω_fr
 use Rattle.compare.specs.declared.Kind.TheVariants.{Gamma, Omega}
 use Rattle.compare.specs.declared.Source.TheVariants.{Execution}
 use Rattle.compare.specs.declared.Spot.{Spot}
-use Rattle.compare.specs.Kinds.{number}
+use Rattle.compare.specs.Kinds.{number, party_number}
 use Rattle.compare.specs.Spots.{Inside, at, shown, first_spot, read_at, open_both, on_hashes, on_party, on_last, on_rest, on_all}
 
 -- ---- a party open in both
-pub closed_one : (h1 h2 i : ℕ) → i ≡ h1 → false ≡ open_both h1 h2 i
-unfolding open_both holds
-closed_one h1 h2 i e = rw (eq-eqb i h1 e)
-
-pub open_one : (h1 h2 i : ℕ) → (i ≡ h1 → ⊥) → not (eqb i h2) ≡ open_both h1 h2 i
-unfolding open_both holds
-open_one h1 h2 i n = sym (rw (ne_eqb i h1 n) (last (not (eqb i h2))))
-  where
-    last : (c : Bool) → pick c true false ≡ c
-    last true = refl
-    last false = refl
-
 open_facts : (h1 h2 i : ℕ) → open_both h1 h2 i ≡ true → (i ≡ h1 → ⊥) × (i ≡ h2 → ⊥)
 unfolding open_both
 open_facts h1 h2 i e =
@@ -54,27 +42,24 @@ open_facts h1 h2 i e =
     not-not {t} e = not-true t e
 
 -- ---- the first spot at which the lists differ
+pub same_spot : (o : Option Spot) → option_map (λ r. r) o ≡ o
+same_spot None = refl
+same_spot (Some r) = refl
+
 module _ (l1 l2 i1 i2 : List ℕ) where
   abbrev F : List Spot → Option Spot
   F ss = first_spot ss l1 l2 i1 i2
 
-  pub none_left : (ss : List Spot) (i : ℕ) → length ss ≤ i → F ss ≡ F (drop i ss) → None ≡ F ss
+  -- std's search for a spot at which they differ
+  pub found_first : (ss : List Spot) → find (λ r. not (same (shown r l1 i1) (shown r l2 i2))) ss ≡ F ss
   unfolding first_spot
-  none_left ss i h e = sym (rw (drop_of_length-le ss h) at e)
-
-  -- The spot at i: its inputs are equal, or differ.
-  module _ (ss : List Spot) (i : ℕ) (d : Spot) (h : i < length ss) (e : F ss ≡ F (drop i ss)) {a b : List ℕ} {t : Bool}
-      (one : a ≡ shown (get_or ss i d) l1 i1) (two : b ≡ shown (get_or ss i d) l2 i2) (is : t ≡ same a b) where
-    test_is : same (shown (get_or ss i d) l1 i1) (shown (get_or ss i d) l2 i2) ≡ t
-    test_is = sym (is ∙ ap₂ same one two)
-
-    pub differs_at : t ≡ false → Some (get_or ss i d) ≡ F ss
-    unfolding first_spot
-    differs_at z = sym (e ∙ (ap F (drop-cons ss i d h) ∙ pick_false _ _ _ (test_is ∙ z)))
-
-    pub equal_at : t ≡ true → F ss ≡ F (drop (i + 1) ss)
-    unfolding first_spot
-    equal_at z = e ∙ (ap F (drop-cons ss i d h) ∙ (pick_true _ _ _ (test_is ∙ z) ∙ ap (λ (j : ℕ). F (drop j ss)) (sym (add-one i))))
+  found_first [] = refl
+  found_first (r ∷ ss) = go (found_first ss) (same (shown r l1 i1) (shown r l2 i2))
+    where
+      go : find (λ r. not (same (shown r l1 i1) (shown r l2 i2))) ss ≡ F ss → (t : Bool)
+          → cond (not t) (Some r) (find (λ r. not (same (shown r l1 i1) (shown r l2 i2))) ss) ≡ pick t (F ss) (Some r)
+      go ih true = ih
+      go ih false = refl
 
   -- Where the first list finds no difference, the second decides; where it finds one, the joined list finds it.
   pub passes : (a b : List Spot) → F a ≡ None → F (a ++ b) ≡ F b
@@ -159,11 +144,11 @@ pub party_closed : (m N h1 h2 i : ℕ) → open_both h1 h2 i ≡ false → on_pa
 unfolding on_party
 party_closed m N h1 h2 i e = pick_false _ _ _ e
 
-pub party_open : (m N h1 h2 i size : ℕ) {r : Spot} → open_both h1 h2 i ≡ true → r ≡ at Gamma (i + 1) Execution (32 * N + 32 * i) size → size ≡ Γ_size m N i
+pub party_open : (m N h1 h2 i size : ℕ) {r : Spot} → open_both h1 h2 i ≡ true → r ≡ at Gamma (Some (i + 1)) Execution (32 * N + 32 * i) size → size ≡ Γ_size m N i
     → on_party m N h1 h2 i ≡ r ∷ []
 unfolding on_party
 party_open m N h1 h2 i size o e z =
-    pick_true _ _ _ o ∙ sym (λ j. (e ∙ ap₂ (λ (a b : ℕ). at Gamma a Execution (32 * N + 32 * i) b) (add-one i) z) j ∷ [])
+    pick_true _ _ _ o ∙ sym (λ j. (e ∙ ap₂ (λ (a b : ℕ). at Gamma (Some a) Execution (32 * N + 32 * i) b) (add-one i) z) j ∷ [])
 
 pub size_last : (m N i : ℕ) → i + 1 ≡ N → 32 + 4 * m ≡ Γ_size m N i
 size_last m N i e = ap (λ (n : ℕ). 32 + n) (sym (pick_true _ (4 * m) 0 (eq-eqb (suc i) N (sym (add-one i) ∙ e))))
@@ -175,7 +160,7 @@ pub last_closed : (m N h1 h2 : ℕ) → open_both h1 h2 (N - 1) ≡ false → on
 unfolding on_last
 last_closed m N h1 h2 e = pick_false _ _ _ e
 
-pub last_open : (m N h1 h2 : ℕ) → open_both h1 h2 (N - 1) ≡ true → on_last m N h1 h2 ≡ at Omega N Execution (Ω_from m N) (4 * m + 16) ∷ []
+pub last_open : (m N h1 h2 : ℕ) → open_both h1 h2 (N - 1) ≡ true → on_last m N h1 h2 ≡ at Omega (Some N) Execution (Ω_from m N) (4 * m + 16) ∷ []
 unfolding on_last
 last_open m N h1 h2 e = pick_true _ _ _ e
 
@@ -255,12 +240,12 @@ answered k h1 h2 l1 l2 i1 i2 e = (
 module _ (l1 l2 i1 i2 : List ℕ) where
   unfoldable pub compared : List Spot → List Comparison
   compared [] = []
-  compared (r ∷ rs) = compare (number r.kind) r.party (shown r l1 i1) (shown r l2 i2) ∷ compared rs
+  compared (r ∷ rs) = compare (number r.kind) (party_number r.party) (shown r l1 i1) (shown r l2 i2) ∷ compared rs
 
   compared_append : (a b : List Spot) → compared (a ++ b) ≡ compared a ++ compared b
   unfolding compared
   compared_append [] b = refl
-  compared_append (r ∷ a) b = ap (λ (x : List Comparison). compare (number r.kind) r.party (shown r l1 i1) (shown r l2 i2) ∷ x) (compared_append a b)
+  compared_append (r ∷ a) b = ap (λ (x : List Comparison). compare (number r.kind) (party_number r.party) (shown r l1 i1) (shown r l2 i2) ∷ x) (compared_append a b)
 
   compared_cat : (n : ℕ) (f : ℕ → List Spot) → compared (cat n f) ≡ cat n (λ i. compared (f i))
   unfolding compared cat
@@ -321,7 +306,7 @@ module _ (K : Key) (P R : Parts) (e h1 h2 : ℕ) (l1 l2 i1 i2 : List ℕ) (L1 : 
     where
       go : (t : Bool) → open_both h1 h2 i ≡ t
           → ◌≡◌ {A = List Comparison} (pick t (compare 3 (suc i) (Γin K (view K P e) i) (Γin K (view K R e) i) ∷ []) [])
-          (compared l1 l2 i1 i2 (pick t (at Gamma (suc i) Execution (Γ_from K.N i) (Γ_size K.m K.N i) ∷ []) []))
+          (compared l1 l2 i1 i2 (pick t (at Gamma (Some (suc i)) Execution (Γ_from K.N i) (Γ_size K.m K.N i) ∷ []) []))
       go true o =
           let f = open_facts h1 h2 i o in
           sym (ap₂ (λ (x y : List ℕ). compare 3 (suc i) x y ∷ []) (Γ_one i b f.0) (Γ_two i b f.1))
@@ -347,7 +332,7 @@ module _ (K : Key) (P R : Parts) (e h1 h2 : ℕ) (l1 l2 i1 i2 : List ℕ) (L1 : 
 
       go : (t : Bool) → open_both h1 h2 (K.N - 1) ≡ t
           → ◌≡◌ {A = List Comparison} (pick t (compare 4 K.N (Ωin K (view K P e)) (Ωin K (view K R e)) ∷ []) [])
-          (compared l1 l2 i1 i2 (pick t (at Omega K.N Execution (Ω_from K.m K.N) (4 * K.m + 16) ∷ []) []))
+          (compared l1 l2 i1 i2 (pick t (at Omega (Some K.N) Execution (Ω_from K.m K.N) (4 * K.m + 16) ∷ []) []))
       go true o =
           let f = open_facts h1 h2 (K.N - 1) o in
           sym (ap₂ (λ (x y : List ℕ). compare 4 K.N x y ∷ []) (Ω_one f.0) (Ω_two f.1))

@@ -1,6 +1,6 @@
--- The number of each kind of hash input in document 01.
+-- The number of each kind of hash input, and of a party, in document 01.
 -- Assumes nothing.
-use Rattle.std.specs.Prelude.{ℕ}
+use Rattle.std.specs.Prelude.{ℕ, Option, Some, None}
 use Rattle.compare.specs.declared.Kind.{Kind}
 use Rattle.compare.specs.declared.Kind.TheVariants.{HGamma, H, Gamma, Omega, HPi, Pi, HPsi, Psi}
 
@@ -13,3 +13,8 @@ number HPi = 5
 number Pi = 6
 number HPsi = 7
 number Psi = 8
+
+-- a party from 1 on, or 0 for none
+abbrev pub party_number : Option ℕ → ℕ
+party_number None = 0
+party_number (Some i) = i

@@ -11,7 +11,7 @@ use Rattle.compare.specs.declared.Kind.TheVariants.{HGamma, H, Gamma, Omega, HPi
 use Rattle.compare.specs.declared.Source.{Source}
 use Rattle.compare.specs.declared.Source.TheVariants.{Lists, Execution}
 use Rattle.compare.specs.declared.Spot.{Spot}
-use Rattle.compare.specs.Kinds.{number}
+use Rattle.compare.specs.Kinds.{number, party_number}
 
 -- of what the two kinds of lists have, that of a source
 abbrev pub sourced : {A : Type 0} → Source → A → A → A
@@ -19,7 +19,7 @@ sourced Lists l x = l
 sourced Execution l x = x
 
 -- one place of the lists of a source
-abbrev pub at : Kind → (party : ℕ) → Source → (from size : ℕ) → Spot
+abbrev pub at : Kind → (party : Option ℕ) → Source → (from size : ℕ) → Spot
 at kind party source from size = record { kind = kind; party = party; source = source; from = from; length = size }
 
 -- the input that a spot shows in the lists l and x
@@ -34,7 +34,7 @@ first_spot (r ∷ rs) l1 l2 i1 i2 = pick (same (shown r l1 i1) (shown r l2 i2)) 
 -- the collision of a spot, in execution e, or else x
 abbrev pub read_at : (l1 l2 i1 i2 : List ℕ) → ℕ → Reading → Option Spot → Reading
 read_at l1 l2 i1 i2 e x None = x
-read_at l1 l2 i1 i2 e x (Some r) = collision (number r.kind) e r.party (shown r l1 i1) (shown r l2 i2)
+read_at l1 l2 i1 i2 e x (Some r) = collision (number r.kind) e (party_number r.party) (shown r l1 i1) (shown r l2 i2)
 
 -- the place of r lies in lists of these lengths
 pub record Inside (lists inputs : ℕ) (r : Spot) : Type 0 where
@@ -47,23 +47,23 @@ open_both h1 h2 i = holds (not (eqb i h1) ∷ not (eqb i h2) ∷ [])
 
 -- 1 hΓ and 2 h(e)
 unfoldable pub on_hashes : (M N : ℕ) → List Spot
-on_hashes M N = at HGamma 0 Lists 0 (32 * M) ∷ at H 0 Execution 0 (32 * N) ∷ []
+on_hashes M N = at HGamma None Lists 0 (32 * M) ∷ at H None Execution 0 (32 * N) ∷ []
 
 -- 3 Γ(i), where party i is open in both
 unfoldable pub on_party : (m N h1 h2 : ℕ) → ℕ → List Spot
-on_party m N h1 h2 i = pick (open_both h1 h2 i) (at Gamma (suc i) Execution (Γ_from N i) (Γ_size m N i) ∷ []) []
+on_party m N h1 h2 i = pick (open_both h1 h2 i) (at Gamma (Some (suc i)) Execution (Γ_from N i) (Γ_size m N i) ∷ []) []
 
 -- 4 Ω, where N is open in both
 unfoldable pub on_last : (m N h1 h2 : ℕ) → List Spot
-on_last m N h1 h2 = pick (open_both h1 h2 (N - 1)) (at Omega N Execution (Ω_from m N) (4 * m + 16) ∷ []) []
+on_last m N h1 h2 = pick (open_both h1 h2 (N - 1)) (at Omega (Some N) Execution (Ω_from m N) (4 * m + 16) ∷ []) []
 
 -- 5 hπ, 6 Π, 7 hψ and 8 Ψ, of c kept executions
 unfoldable pub on_rest : (m N M c : ℕ) → List Spot
 on_rest m N M c =
-    at HPi 0 Lists (hπ_from M) (32 * c)
-    ∷ at Pi 0 Execution (Π_from m N) (4 * m * N + 16)
-    ∷ at HPsi 0 Lists (hψ_from M c) (32 * c)
-    ∷ at Psi 0 Execution (Ψ_from m N) (4 * N + 16)
+    at HPi None Lists (hπ_from M) (32 * c)
+    ∷ at Pi None Execution (Π_from m N) (4 * m * N + 16)
+    ∷ at HPsi None Lists (hψ_from M c) (32 * c)
+    ∷ at Psi None Execution (Ψ_from m N) (4 * N + 16)
     ∷ []
 
 -- all of them

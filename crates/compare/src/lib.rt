@@ -3,13 +3,13 @@
 
 mod sides;
 
-ghost use Rattle.std.specs.Prelude.{◌≡◌, ◌-◌, ◌<◌, length, IfSome, All};
+ghost use Rattle.std.specs.Prelude.{◌≡◌, ◌-◌, ◌<◌, length, None, IfSome, All};
 ghost use Rattle.lists.specs.Index.{cat};
 ghost use Rattle.walk.specs.Lists.{lists_size};
 ghost use Rattle.inputs.specs.Layout.{execution_size};
 ghost use Rattle.compare.specs.Kinds.{number};
 ghost use Rattle.compare.specs.Spots.{Inside, at, shown, open_both, on_hashes, on_party, on_last, on_rest, on_all};
-ghost use Rattle.compare.specs.Between.{Fits, first_between};
+ghost use Rattle.compare.specs.Between.{Fits, differ_at, first_between};
 
 use bytes4::same_bytes;
 pub use sides::{Compared, Side};
@@ -28,7 +28,7 @@ pub enum Kind {
 }
 
 impl Kind {
-    // Its number in document 01.
+    // Its number in document 01. `Refusal::number` is the same line for another enum.
     pub fn number(self) -> u32
         ensures { result ≡ number self }
     {
@@ -43,11 +43,12 @@ pub enum Source {
     Execution,
 }
 
-// Two inputs that differ: their kind, the party from 1 on (N for Ω, 0 where none), and where both begin and how long both are.
+// Two inputs that differ: their kind, the party from 1 on (N for Ω) where it is one party's, and where both begin and how long both are.
+// A place and no slice, since it names the input in the lists of both transcripts.
 #[derive(Clone, Copy, Debug, PartialEq, Eq)]
 pub struct Spot {
     pub kind: Kind,
-    pub party: usize,
+    pub party: Option<usize>,
     pub source: Source,
     pub from: usize,
     pub length: usize,
@@ -56,11 +57,11 @@ pub struct Spot {
 impl Spot {
     // A place in the lists of the list hashes.
     fn listed(kind: Kind, from: usize, size: usize) -> Spot
-        ensures { result ≡ at kind 0 Source.Lists from size }
+        ensures { result ≡ at kind None Source.Lists from size }
     {
         Spot {
             kind,
-            party: 0,
+            party: None,
             source: Source::Lists,
             from,
             length: size,
@@ -68,7 +69,7 @@ impl Spot {
     }
 
     // A place in the lists of the execution.
-    fn opened(kind: Kind, party: usize, from: usize, size: usize) -> Spot
+    fn opened(kind: Kind, party: Option<usize>, from: usize, size: usize) -> Spot
         ensures { result ≡ at kind party Source.Execution from size }
     {
         Spot {
@@ -93,21 +94,24 @@ impl Spot {
 }
 
 impl Compared<'_> {
+    // The lists differ at a place.
+    fn differ_at(self, spot: Spot) -> bool
+        requires { Fits self spot }
+        ensures { result ≡ differ_at self.entry spot }
+    {
+        !same_bytes(spot.input(self.one), spot.input(self.two))
+    }
+
     // The first of these places at which the lists differ.
     fn first_of(self, spots: &[Spot]) -> Option<Spot>
         requires { All (Fits self) spots.now }
         ensures { result ≡ first_between spots.now self.entry }
     {
-        for spot in spots {
-            if !same_bytes(spot.input(self.one), spot.input(self.two)) {
-                return Some(*spot);
-            }
-        }
-        None
+        spots.iter().copied().find(|&spot| self.differ_at(spot))
     }
 
     // Party i is hidden in neither.
-    #[tactic(auto, using(crate::proofs::Laws::open_one, crate::proofs::Laws::closed_one))]
+    #[tactic(auto, unfolding(crate::specs::Spots::open_both, lists::specs::Index::holds))]
     fn open_in_both(self, i: usize) -> bool
         ensures { result ≡ open_both self.entry.one.hidden self.entry.two.hidden i }
     {
@@ -119,7 +123,7 @@ impl Compared<'_> {
         ensures { result ≡ first_between (on_hashes self.entry.numbers.executions self.entry.numbers.parties) self.entry }
     {
         let h_gamma = Spot::listed(Kind::HGamma, 0, 32 * self.numbers.executions);
-        let h = Spot::opened(Kind::H, 0, 0, 32 * self.numbers.parties);
+        let h = Spot::opened(Kind::H, None, 0, 32 * self.numbers.parties);
         self.first_of(&[h_gamma, h])
     }
 
@@ -137,10 +141,11 @@ impl Compared<'_> {
         } else {
             32
         };
-        self.first_of(&[Spot::opened(Kind::Gamma, i + 1, from, length)])
+        self.first_of(&[Spot::opened(Kind::Gamma, Some(i + 1), from, length)])
     }
 
-    // Γ of the parties that are open in both. By `find_map` the proof would not know what its closure returns.
+    // Γ of the parties that are open in both. Of `|i| self.of_party(i)` no `ensures` is inferred: by `find_map` the closure would have to
+    // repeat the clauses of `of_party`.
     fn of_parties(self) -> Option<Spot>
         ensures { result ≡ first_between (cat self.entry.numbers.parties (on_party self.entry.numbers.m self.entry.numbers.parties self.entry.one.hidden self.entry.two.hidden)) self.entry }
     {
@@ -162,7 +167,7 @@ impl Compared<'_> {
             return None;
         }
         let from = 64 * parties + 4 * m;
-        self.first_of(&[Spot::opened(Kind::Omega, parties, from, 4 * m + 16)])
+        self.first_of(&[Spot::opened(Kind::Omega, Some(parties), from, 4 * m + 16)])
     }
 
     // hπ, Π, hψ and Ψ.
@@ -175,18 +180,19 @@ impl Compared<'_> {
         let kept = executions - self.numbers.opened;
         let grid = 4 * m * parties;
         let h_pi = Spot::listed(Kind::HPi, 32 * executions, 32 * kept);
-        let pi = Spot::opened(Kind::Pi, 0, 64 * parties + 8 * m + 16, grid + 16);
+        let pi = Spot::opened(Kind::Pi, None, 64 * parties + 8 * m + 16, grid + 16);
         let h_psi = Spot::listed(Kind::HPsi, 32 * executions + 32 * kept, 32 * kept);
         let psi = Spot::opened(
             Kind::Psi,
-            0,
+            None,
             64 * parties + 8 * m + grid + 32,
             4 * parties + 16,
         );
         self.first_of(&[h_pi, pi, h_psi, psi])
     }
 
-    // The first two inputs that differ. By `or_else` the proof would not know what its closures return.
+    // The first two inputs that differ. Of `|| self.of_last()` no `ensures` is inferred: by `or_else` each closure would have to repeat the
+    // clause of what it calls.
     pub fn first_difference(self) -> Option<Spot>
         ensures inside { IfSome result (λ r. Inside (lists_size self.entry.numbers.executions (self.entry.numbers.executions - self.entry.numbers.opened)) (execution_size self.entry.numbers.m self.entry.numbers.parties) r) }
         ensures value { result ≡ first_between (on_all self.entry.numbers.m self.entry.numbers.parties self.entry.numbers.executions (self.entry.numbers.executions - self.entry.numbers.opened) self.entry.one.hidden self.entry.two.hidden) self.entry }

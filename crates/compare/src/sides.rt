@@ -1,4 +1,4 @@
-// What is compared: the lists of two transcripts.
+// What is compared: the lists of two transcripts. Nothing compares or prints these two types.
 
 ghost use Rattle.std.specs.Prelude.{◌≡◌, ◌-◌, length};
 ghost use Rattle.walk.specs.Lists.{lists_size};

@@ -1,25 +1,30 @@
 -- Places of the work list, and a part of a list that was lent and filled.
 -- Assumes nothing.
 use Prim.Native.Nat.{ℕ, suc, ◌+◌, ◌*◌, ◌-◌, ◌%◌, ◌<◌, ◌≤◌}
-use mathlib.Core.Path.{◌≡◌, refl, sym, ◌∙◌, ap}
+use mathlib.Core.Path.{◌≡◌, sym, ◌∙◌, ap, ap₂}
 use mathlib.Core.Bool.{Bool, true, false}
-use mathlib.Core.List.{List, ◌++◌}
+use mathlib.Core.List.{List, [], ◌++◌, append_assoc}
 use native.Mathlib.Nat.{mul-le-mul_left, mul-le-mul}
 use native.Mathlib.Omega.{arith}
 use native.Mathlib.Numerals.{add-one}
 use native.Mathlib.Decide.{ℕ_discrete}
 use lib.Arith.{lt_of_le-ne}
 use lib.Dec.{eqb}
+use Rattle.std.specs.Simd.{first_chunks}
 use lib.ListN.{length, get_or, take, drop, length-append, length-drop, length-set, set, get_or-append}
 use lib.Seq.{length-take-le, get_or-append-add, get_or-take, get_or-drop, get_or-set_same, get_or-set_other}
+use Rattle.lists.proofs.Chains.{chunk_at}
 use Rattle.lists.specs.Tab.{tab, tab-at, tab-length}
 use Rattle.lists.specs.Index.{pick, part}
+use Rattle.lists.specs.Bytes.{num}
+use Rattle.lists.specs.CatLaws.{num-at}
 use Rattle.execution.specs.Shown.{place_of}
 use Rattle.numbers.specs.Mod.{Cong, sub}
 use Rattle.numbers.proofs.Mod.{cong_eq, cong_trans, cong_mod, cong_mul, cong_same, cong_refl, sub_cong, sub-lt}
 use Rattle.numbers.specs.Sum.{sum}
 use Rattle.numbers.proofs.Sum.{sum_ext}
 use Rattle.streams.specs.Streams.{number}
+use Rattle.protocol.specs.Shares.{input}
 use Rattle.execution.specs.Lists.{Put, count_of, Drawn, column_of, last_d, last_s}
 
 -- party i's 3m numbers end within all parties' numbers
@@ -81,7 +86,33 @@ put_filled xs ys a c f h g =
     let long : ys ≡ tab c f = rw (part-long xs a c h) at g in
     rw z (put-part xs ys a c f h (rw long (tab-length c f)) (λ j k. rw long (tab-at c f j k)))
 
+-- number j of the bytes from number d on
+num_within : (x : List ℕ) (d l j : ℕ) → j < l → num (take (4 * (d + l) - 4 * d) (drop (4 * d) x)) j ≡ num x (d + j)
+num_within x d l j h =
+    rw (num-at _ j, num-at x (d + j))
+    (ap₂ (λ (a b : ℕ). a + b)
+    (ap₂ (λ (a b : ℕ). a + b)
+    (ap₂ (λ (a b : ℕ). a + b) (byte _ _ (omega arith) (omega arith)) (ap (λ (a : ℕ). 256 * a) (byte _ _ (omega arith) (omega arith))))
+    (ap (λ (a : ℕ). 65536 * a) (byte _ _ (omega arith) (omega arith))))
+    (ap (λ (a : ℕ). 16777216 * a) (byte _ _ (omega arith) (omega arith))))
+  where
+    byte : (i k : ℕ) → i < 4 * l → 4 * d + i ≡ k → get_or (take (4 * (d + l) - 4 * d) (drop (4 * d) x)) i 0 ≡ get_or x k 0
+    byte i k e at = get_or-take _ _ i 0 (omega arith) ∙ (get_or-drop (4 * d) x i 0 ∙ ap (λ n. get_or x n 0) at)
+
+-- the same for a part that came back as the numbers of bytes
+pub put_read : (xs ys given : List ℕ) (a c d : ℕ) → a + c ≤ length xs
+    → ys ≡ tab (length (take (a + c - a) (drop a xs))) (num (take (4 * (d + c) - 4 * d) (drop (4 * d) given)))
+    → Put a c (λ j. num given (d + j)) xs (take a xs ++ (ys ++ drop (a + c - a) (drop a xs)))
+put_read xs ys given a c d h g =
+    let so = put_filled xs ys a c _ h g in
+    record { long = so.long; at = λ j k. so.at j k ∙ num_within given d c j k; below = so.below; above = so.above }
+
 -- ---- the parties' numbers, party by party
+
+-- what Γ hashes has no label
+pub gamma_label : (e i : ℕ) (x d r : List ℕ) → x ++ (d ++ r) ≡ input 3 e i (x ++ d ++ r)
+unfolding input
+gamma_label e i x d r = sym (append_assoc x d r)
 
 -- a hidden party draws nothing
 pub drawn_hidden : {q m N hid per : ℕ} {leaves work : List ℕ} {n : ℕ} → n ≡ hid → Drawn q m N hid per leaves work n → Drawn q m N hid per leaves work (n + 1)
@@ -89,14 +120,15 @@ drawn_hidden {q} {m} {N} {hid} {per} {leaves} {work} {n} e so =
     record { at = λ i j h other k. so.at i j (lt_of_le-ne (omega arith) (λ z. other (z ∙ e))) other k }
 
 -- party n has drawn its numbers, the others' stay
-pub drawn_next : {q m N hid per : ℕ} {leaves seed work after : List ℕ} {n : ℕ} → m ≤ per → per ≤ 3 * m → seed ≡ part leaves (16 * n) 16
+pub drawn_next : {q m N hid per k : ℕ} {leaves seed work after : List ℕ} {n : ℕ} → m ≤ per → per ≤ 3 * m → n < k
+    → seed ≡ get_or (first_chunks 16 k leaves) n []
     → Put (3 * m * n) (count_of m N per n) (number q seed 2) work after
     → Drawn q m N hid per leaves work n → Drawn q m N hid per leaves after (n + 1)
-drawn_next {q} {m} {N} {hid} {per} {leaves} {seed} {work} {after} {n} low high is put so = record { at = λ i j h other k. go i j (ℕ_discrete i n) h other k }
+drawn_next {q} {m} {N} {hid} {per} {k} {leaves} {seed} {work} {after} {n} low high inside_k is put so = record { at = λ i j h other k. go i j (ℕ_discrete i n) h other k }
   where
     go : (i j : ℕ) → Dec (i ≡ n) → i < n + 1 → (i ≡ hid → ⊥) → j < count_of m N per i
         → get_or after (place_of m i j) 0 ≡ number q (part leaves (16 * i) 16) 2 j
-    go i j (yes e) h other k = rw e (put.at j (rw (← e) k) ∙ ap (λ z. number q z 2 j) is)
+    go i j (yes e) h other k = rw e (put.at j (rw (← e) k) ∙ ap (λ z. number q z 2 j) (is ∙ chunk_at 16 _ n leaves inside_k))
     go i j (no ne) h other k =
         let below : i < n = lt_of_le-ne (omega arith) ne in
         put.below (place_of m i j) (omega (arith, inside m n i below, count-le m N per i low)) ∙ so.at i j below other k
@@ -107,9 +139,6 @@ unfolding sum
 sum_step total x i f e h = rw (add-one i, e, h)
 
 -- ---- a list filled in place, from a place on
-
-pub put_none : (a : ℕ) (f : ℕ → ℕ) (xs : List ℕ) → Put a 0 f xs xs
-put_none a f xs = record { long = refl; at = λ j h. absurd (omega arith); below = λ x h. refl; above = λ x h. refl }
 
 pub put_next : {a n : ℕ} {f : ℕ → ℕ} {xs ys : List ℕ} {x : ℕ} → Put a n f xs ys → a + n < length ys → x ≡ f n → Put a (n + 1) f xs (set ys (a + n) x)
 put_next {a} {n} {f} {xs} {ys} {x} so h e =
@@ -150,12 +179,9 @@ last_s_same q m N k x a xs ys h e same =
     rw (column-same m (N - 1) (2 * m + k) a xs ys same (λ i y. omega (arith, inside m (N - 1) i y)))
 
 -- what the code computes for party N, with reduced numbers
-pub last_d_is : (q B D b d x : ℕ) → 0 < q → b ≡ B % q → d ≡ D % q → x ≡ (b * b) % q → sub q x d ≡ sub q (B * B) D
-last_d_is q B D b d x pos eb ed ex =
-    cong_same (sub-lt pos x d) (sub-lt pos (B * B) D)
-    (sub_cong pos
-    (cong_trans (cong_eq ex) (cong_trans (cong_mod q (b * b)) (cong_mul half half)))
-    (cong_trans (cong_eq ed) (cong_mod q D)))
+pub last_d_is : (q B b x D : ℕ) → 0 < q → b ≡ B % q → x ≡ (b * b) % q → sub q x D ≡ sub q (B * B) D
+last_d_is q B b x D pos eb ex =
+    cong_same (sub-lt pos x D) (sub-lt pos (B * B) D) (sub_cong pos (cong_trans (cong_eq ex) (cong_trans (cong_mod q (b * b)) (cong_mul half half))) cong_refl)
   where
     half : Cong q b B
     half = cong_trans (cong_eq eb) (cong_mod q B)

@@ -2,8 +2,10 @@
 #![tactic(auto)]
 
 pub mod commit;
+mod places;
 pub mod prepare;
 pub mod shares;
 mod sizes;
 
+pub use places::fill;
 pub use sizes::{Dealing, Evaluation, Lists, OpenShares, Sharing, Statement};

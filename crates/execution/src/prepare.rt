@@ -7,7 +7,7 @@ ghost use Rattle.execution.specs.Prepared.{Dealt, Opened, Kept, Given, last_coun
 
 use crate::{Dealing, Sharing, shares};
 
-// The prover's execution, from its master seed and the secret.
+// The prover's execution, from its master seed and the secret. Nobody is hidden: `parties`, as at `shares::draw_shares`.
 pub fn deal(dealing: Dealing, master: &[u8; 16], secret: &[u8], leaves: &mut [u8], work: &mut [u32])
     requires secret_long { length secret.now ≡ dealing.m }
     requires leaves_long { length leaves.old ≡ 16 * dealing.parties }
@@ -28,7 +28,8 @@ pub fn deal(dealing: Dealing, master: &[u8; 16], secret: &[u8], leaves: &mut [u8
     shares::deal_s(sharing, secret, work);
 }
 
-// What h(e) takes of an execution that is opened by master seed: the seeds and party N's d.
+// What h(e) takes of an execution that is opened by master seed: the seeds and party N's d. Nobody is hidden, as in `deal`. What it shares
+// with `deal` and `masks::deal_masks` are single calls: one function of them would have to state the list between its steps.
 pub fn deal_opened(dealing: Dealing, master: &[u8; 16], leaves: &mut [u8], work: &mut [u32])
     requires leaves_long { length leaves.old ≡ 16 * dealing.parties }
     requires work_long { 3 * dealing.m * dealing.parties ≤ length work.old }
@@ -46,7 +47,8 @@ pub fn deal_opened(dealing: Dealing, master: &[u8; 16], leaves: &mut [u8], work:
     shares::deal_d(sharing, work);
 }
 
-// How many numbers d and s of party N a reply holds.
+// How many numbers d and s of party N a reply holds. `transcript` counts the same from a key and the party's byte, which may be 0 there, so
+// that it cannot call this.
 fn last_count(m: usize, parties: usize, hidden: usize) -> usize
     requires m_bound { m ≤ 128 }
     requires hidden_lt_parties { hidden < parties }
@@ -55,7 +57,7 @@ fn last_count(m: usize, parties: usize, hidden: usize) -> usize
     if hidden + 1 == parties { 0 } else { 2 * m }
 }
 
-// How many bytes a reply has.
+// How many bytes a reply has. `transcript::reply_size` is over its own count, see `last_count`.
 pub fn reply_length(m: usize, parties: usize, depth: usize, hidden: usize) -> usize
     requires m_bound { m ≤ 128 }
     requires depth_bound { depth ≤ 5 }
@@ -66,7 +68,7 @@ pub fn reply_length(m: usize, parties: usize, depth: usize, hidden: usize) -> us
 }
 
 // Party N's d and s into their places, from the numbers of a reply, unless party N is hidden.
-#[tactic(auto, using(crate::proofs::Laws::put_next, crate::proofs::Laws::put_none))]
+#[tactic(auto, using(crate::proofs::Laws::put_read))]
 fn put_last(sharing: Sharing, hidden: usize, given: &[u8], work: &mut [u32])
     requires hidden_lt_parties { hidden < sharing.parties }
     requires given_long { 4 * (sharing.m + 1 + last_count sharing.m sharing.parties hidden) ≤ length given.now }
@@ -76,9 +78,8 @@ fn put_last(sharing: Sharing, hidden: usize, given: &[u8], work: &mut [u32])
     let Sharing { m, parties, .. } = sharing;
     let count = last_count(m, parties, hidden);
     let from = 3 * m * (parties - 1) + m;
-    for j in 0..count {
-        work[from + j] = bytes4::le32(given, m + 1 + j);
-    }
+    let numbers = &given[4 * (m + 1)..4 * (m + 1 + count)];
+    bytes4::read_numbers(numbers, &mut work[from..from + count]);
 }
 
 // A kept execution, from what part 7 holds of it: seeds, Γ, m numbers α, one o, and party N's d and s unless it is hidden.

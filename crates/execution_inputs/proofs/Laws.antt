@@ -122,10 +122,7 @@ module _ (m N e : ℕ) (leaves work : List ℕ) (l : length leaves ≡ 16 * N) (
 -- Ω's input
 omega_shown : {m N e : ℕ} {leaves work : List ℕ} {K : Key} {v : View} → ForΩ m N e leaves work K v → 1 ≤ N → 3 * m * N ≤ length work → omega_in m N e leaves work ≡ Ωin K v
 unfolding omega_in
-omega_shown {m} {N} {e} {leaves} {work} so some r =
-    let y : m ≡ 3 * m * (N - 1) + 2 * m + m - (3 * m * (N - 1) + 2 * m) = omega arith in
-    ap (λ (a : ℕ). input 4 (e + 1) N (words (take a (drop (3 * m * (N - 1) + 2 * m) work)) ++ block (part leaves (16 * (N - 1)) 16) 1)) y
-    ∙ omega_is so some r refl
+omega_shown so some r = omega_is so some r
 
 -- ---- five lists in a row
 module _ (a b c d f : List ℕ) where

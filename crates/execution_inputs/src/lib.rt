@@ -1,7 +1,7 @@
 // The hash inputs of one kept execution (document 01, Pair reader): h(e), Γ(1) .. Γ(N), Ω, Π and Ψ in one list of bytes.
 #![tactic(auto)]
 
-ghost use Rattle.std.specs.Prelude.{◌≡◌, ◌++◌, ◌+◌, ◌*◌, ◌^◌, ◌%◌, ◌<◌, ◌≤◌, length, drop};
+ghost use Rattle.std.specs.Prelude.{◌≡◌, ◌++◌, ◌+◌, ◌*◌, ◌^◌, ◌%◌, ◌<◌, ◌≤◌, length};
 ghost use Rattle.lists.specs.Index.{cat, part};
 ghost use Rattle.lists.specs.Tab.{tab};
 ghost use Rattle.lists.specs.Bytes.{nums, num};
@@ -19,25 +19,14 @@ ghost use Rattle.kept.specs.Kept.{KeptIn};
 ghost use Rattle.inputs.specs.Layout.{execution_size, Written};
 ghost use Rattle.inputs.specs.Steps.{gamma_in, omega_in};
 
-use execution::{Evaluation, Lists, OpenShares};
-use views::answers;
+use execution::{Evaluation, Lists, OpenShares, commit};
+use views::answers::alpha_bytes;
+use views::parties;
 
-// α(k, 1) .. α(k, N); returns their sum modulo q.
-fn alpha_bytes(shares: OpenShares, k: usize, given: &[u8], out: &mut [u8]) -> u32
-    requires k_lt_m { k < shares.m }
-    requires given_long { shares.hidden < shares.parties → 4 * shares.m ≤ length given.now }
-    requires out_long { length out.old ≡ 4 * shares.parties }
-    ensures out_after { out.new ≡ nums shares.entry.parties (alpha_at shares.entry.modulus.q shares.entry.m shares.entry.hidden given.now shares.entry.work.now k) }
-    ensures value { result ≡ sum shares.entry.parties (alpha_at shares.entry.modulus.q shares.entry.m shares.entry.hidden given.now shares.entry.work.now k) % shares.entry.modulus.q }
-{
-    let row = answers::alpha_row(shares, k, given);
-    bytes4::put_numbers(&row[..shares.parties], out);
-    shares.modulus.reduced(answers::total(&row, shares.parties))
-}
-
-// Π's input: all α(k, i), i running fastest, and block 2e of the seed κ. The sums α(1) .. α(m) go to the front of `sums`.
+// Π's input: all α(k, i), i running fastest, and block 2e of the seed κ. The sums α(1) .. α(m) go to `sums`.
 // `views::answers::pi_of` hashes the same row by row. One function over a trait of sinks is no plainer: a hash and a list would need an
-// implementation with laws each, for a loop that already shares `alpha_row` and `total`.
+// implementation with laws each, for a loop that already shares `alpha_bytes`. The rows are cut out by place: of what a turn of
+// `chunks_exact_mut` wrote nothing is known when the loan ends. The hidden party is N where nobody is, as `OpenShares` has it.
 fn pi_input(
     shares: OpenShares,
     execution: usize,
@@ -48,20 +37,20 @@ fn pi_input(
 )
     requires execution_bound { execution < 32 }
     requires given_long { shares.hidden < shares.parties → 4 * shares.m ≤ length given.now }
-    requires sums_long { shares.m ≤ length sums.old }
+    requires sums_long { length sums.old ≡ shares.m }
     requires out_long { length out.old ≡ 4 * shares.parties * shares.m + 16 }
     ensures out_after { out.new ≡ input 6 (execution + 1) 0 (cat shares.entry.m (λ k. nums shares.entry.parties (alpha_at shares.entry.modulus.q shares.entry.m shares.entry.hidden given.now shares.entry.work.now k)) ++ block kappa.now (2 * execution)) }
-    ensures sums_after { sums.new ≡ tab shares.entry.m (λ k. sum shares.entry.parties (alpha_at shares.entry.modulus.q shares.entry.m shares.entry.hidden given.now shares.entry.work.now k) % shares.entry.modulus.q) ++ drop shares.entry.m sums.old }
+    ensures sums_after { sums.new ≡ tab shares.entry.m (λ k. sum shares.entry.parties (alpha_at shares.entry.modulus.q shares.entry.m shares.entry.hidden given.now shares.entry.work.now k) % shares.entry.modulus.q) }
 {
     let width = 4 * shares.parties;
     let (rows, last) = out.split_at_mut(width * shares.m);
-    for k in 0..shares.m {
-        sums[k] = alpha_bytes(shares, k, given, &mut rows[width * k..width * k + width]);
+    for (k, sum) in sums.iter_mut().enumerate() {
+        *sum = alpha_bytes(shares, k, given, &mut rows[width * k..width * k + width]);
     }
     last.copy_from_slice(&streams::block_of(kappa, 2 * execution as u64));
 }
 
-// Ψ's input: the outputs o(1) .. o(N) and block 2e + 1 of the seed κ.
+// Ψ's input: the outputs o(1) .. o(N), in a list of fixed size as there is no heap, and block 2e + 1 of the seed κ.
 fn psi_input(
     evaluation: Evaluation,
     execution: usize,
@@ -79,13 +68,14 @@ fn psi_input(
         → out.new ≡ Ψin K v kappa.now seed.now }
 {
     let shown = bytes4::le32(given, evaluation.m);
-    let mut outs = [0u32; 32];
+    let mut outs = [0; 32];
     let outs = &mut outs[..evaluation.parties];
     outputs::outputs(evaluation, execution, seed, shown, sums, outs);
-    inputs::put_with_block(outs, kappa, 2 * execution as u64 + 1, out);
+    commit::put_with_block(outs, kappa, 2 * execution as u64 + 1, out);
 }
 
-// The hash inputs of a kept execution whose seeds and shares stand in the lists.
+// The hash inputs of a kept execution whose seeds and shares stand in the lists. `kept` hashes the same and keeps no list, so the walk over
+// the five is written for each. The sums stand in a list of fixed size, as there is no heap.
 pub fn write(
     evaluation: Evaluation,
     depth: usize,
@@ -107,10 +97,14 @@ pub fn write(
     ensures out_after { (K : Key) (P : Parts) → KeptIn evaluation.entry.modulus.q evaluation.entry.n evaluation.entry.m evaluation.entry.parties depth evaluation.entry.hidden execution reply.now kappa.now seed.now evaluation.entry.entries.now K P
         → out.new ≡ (input 2 (execution + 1) 0 (cat evaluation.entry.parties (gamma_at evaluation.entry.m evaluation.entry.parties evaluation.entry.hidden execution (part reply.now (16 * depth) 32) leaves.now evaluation.entry.work.now)) ++ cat evaluation.entry.parties (gamma_in evaluation.entry.m evaluation.entry.parties execution leaves.now evaluation.entry.work.now)) ++ (omega_in evaluation.entry.m evaluation.entry.parties execution leaves.now evaluation.entry.work.now ++ (Πin K (kept_view K P execution) kappa.now ++ Ψin K (kept_view K P execution) kappa.now seed.now)) }
 {
-    let m = evaluation.m;
-    let parties = evaluation.parties;
-    let hidden = evaluation.hidden;
-    let work = evaluation.work;
+    let Evaluation {
+        modulus,
+        m,
+        parties,
+        hidden,
+        work,
+        ..
+    } = evaluation;
     let numbers = 16 * depth + 32;
     let given = &reply[numbers..];
     let lists = Lists {
@@ -120,20 +114,21 @@ pub fn write(
         work,
     };
     let shares = OpenShares {
-        modulus: evaluation.modulus,
+        modulus,
         m,
         parties,
         hidden,
         work,
     };
     let (h, rest) = out.split_at_mut(32 * parties);
-    inputs::h_input(lists, hidden, execution, &reply[16 * depth..numbers], h);
+    parties::h_input(lists, hidden, execution, &reply[16 * depth..numbers], h);
     let (gammas, rest) = rest.split_at_mut(32 * parties + 4 * m);
     inputs::gamma_inputs(lists, execution, gammas);
     let (omega, rest) = rest.split_at_mut(4 * m + 16);
-    inputs::omega_input(lists, execution, omega);
-    let mut sums = [0u32; 128];
+    parties::omega_input(lists, execution, omega);
+    let mut sums = [0; 128];
+    let sums = &mut sums[..m];
     let (pi, psi) = rest.split_at_mut(4 * parties * m + 16);
-    pi_input(shares, execution, given, kappa, &mut sums, pi);
-    psi_input(evaluation, execution, given, kappa, seed, &sums, psi);
+    pi_input(shares, execution, given, kappa, sums, pi);
+    psi_input(evaluation, execution, given, kappa, seed, sums, psi);
 }

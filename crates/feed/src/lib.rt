@@ -6,7 +6,7 @@ ghost use Rattle.lists.specs.Bytes.{words};
 
 use sha::Sha;
 
-// A block of numbers at a time.
+// A block of numbers at a time, the last one in the front of a list for sixteen: memory is fixed.
 pub fn numbers(s: &mut Sha, xs: &[u32])
     ensures { Fed s.old (words xs.now) s.new }
 {

@@ -6,7 +6,7 @@ use mathlib.Core.Bool.{Bool, true, false}
 use mathlib.Core.List.{List, ◌++◌}
 use native.Mathlib.Numerals.{add-one}
 use native.Mathlib.Omega.{arith}
-use Rattle.std.specs.Prelude.{Some, None, Result, Ok}
+use Rattle.std.specs.Prelude.{Option, Some, None, Result, Ok}
 use lib.Dec.{ltb}
 use lib.ListN.{length, drop}
 use Rattle.lists.specs.Index.{pick}
@@ -18,7 +18,7 @@ use Rattle.compare.specs.declared.Kind.{Kind}
 use Rattle.compare.specs.declared.Source.{Source}
 use Rattle.compare.specs.declared.Source.TheVariants.{Lists, Execution}
 use Rattle.compare.specs.declared.Spot.{Spot}
-use Rattle.compare.specs.Kinds.{number}
+use Rattle.compare.specs.Kinds.{number, party_number}
 use Rattle.compare.specs.Spots.{Inside, sourced, shown, first_spot, read_at, on_all}
 use Rattle.compare.proofs.Laws.{first_read}
 use Rattle.refusals.specs.declared.Refusal.{Refusal}
@@ -86,13 +86,13 @@ reads_found K e sums {x} {r} h1 h2 {bits} {bits'} {errs} {errs'} is f =
     })
 
 -- a collision leaves the secret output and the u and v list
-pub reads_collision : (kind : Kind) (e party n : ℕ) (one two h1 h2 bits errs : List ℕ) {x : Reading} {ys zs : List ℕ} → x ≡ collision (number kind) (suc e) party one two
+pub reads_collision : (kind : Kind) (e : ℕ) (party : Option ℕ) (n : ℕ) (one two h1 h2 bits errs : List ℕ) {x : Reading} {ys zs : List ℕ} → x ≡ collision (number kind) (suc e) (party_number party) one two
     → length one ≡ n → length two ≡ n → ys ≡ one → zs ≡ two
     → Reads x (Ok (Collision kind (e + 1) party n)) h1 (ys ++ drop n h1) h2 (zs ++ drop n h2) bits bits errs errs
 reads_collision kind e party n one two h1 h2 bits errs {x} {ys} {zs} is l1 l2 e1 e2 =
     subst (λ (y : Reading). Reads y (Ok (Collision kind (e + 1) party n)) h1 (ys ++ drop n h1) h2 (zs ++ drop n h2) bits bits errs errs) (sym is)
     (record {
-      answer = λ i. found_as 1 (value_list (number kind) (add-one e i) party (l1' i) 0 0 0);
+      answer = λ i. found_as 1 (value_list (number kind) (add-one e i) (party_number party) (l1' i) 0 0 0);
       hash1 = λ i. e1 i ++ drop (l1' i) h1;
       hash2 = λ i. e2 i ++ drop (l2' i) h2;
       secret = refl;
@@ -112,7 +112,7 @@ module _ (K : Key) (e h1 h2 : ℕ) (l1 l2 i1 i2 sums : List ℕ) where
   in_none z = ap (read_at l1 l2 i1 i2 (suc e) (found K e sums)) (sym z)
 
   pub in_spot : (r : Spot) → Some r ≡ first_spot (on_all K.m K.N K.M (kept_count K) h1 h2) l1 l2 i1 i2
-      → found_in K e h1 h2 l1 l2 i1 i2 sums ≡ collision (number r.kind) (suc e) r.party (shown r l1 i1) (shown r l2 i2)
+      → found_in K e h1 h2 l1 l2 i1 i2 sums ≡ collision (number r.kind) (suc e) (party_number r.party) (shown r l1 i1) (shown r l2 i2)
   unfolding found_in
   in_spot r z = ap (read_at l1 l2 i1 i2 (suc e) (found K e sums)) (sym z)
 

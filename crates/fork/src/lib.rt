@@ -1,7 +1,7 @@
 // Where two accepted transcripts of one first message fork (document 01, Pair reader). Executions and parties are counted from 0.
 #![tactic(auto)]
 
-ghost use Rattle.std.specs.Prelude.{◌≡◌, false, ◌≤◌, ◌<◌};
+ghost use Rattle.std.specs.Prelude.{◌≡◌, false, ◌≤◌, ◌<◌, IfSome, MatchOption};
 ghost use Rattle.lists.specs.Index.{same};
 ghost use Rattle.protocol.specs.Key.{Key};
 ghost use Rattle.protocol.specs.Prover.{opened, place, hidden_of};
@@ -36,22 +36,16 @@ pub fn same_hidden(x: FileParts, y: FileParts) -> bool
     same_bytes(x.p6, y.p6)
 }
 
-// How many executions before e are kept.
+// How many executions before e are kept. E may be any list here, so no search in it relies on its order.
 #[tactic(auto, unfolding(protocol::specs::Prover::place, lists::specs::Index::count))]
 pub fn place_of(p2: &[u8], e: usize) -> usize
     requires { e ≤ 256 }
     ensures { result ≡ place p2.now e }
 {
-    let mut kept = 0;
-    for j in 0..e {
-        if !is_opened(p2, j) {
-            kept += 1;
-        }
-    }
-    kept
+    (0..e).filter(|&j| !is_opened(p2, j)).count()
 }
 
-// The hidden party of kept execution e.
+// The hidden party of kept execution e, or 0 past the list's end: an Option would only be unwrapped, since an accepted file has it.
 #[tactic(auto, unfolding(protocol::specs::Prover::hidden_of))]
 pub fn hidden_of(p2: &[u8], p6: &[u8], e: usize) -> usize
     requires { e ≤ 256 }
@@ -69,17 +63,12 @@ fn forks_at(p2: &[u8], h1: &[u8], h2: &[u8], e: usize) -> bool
     !is_opened(p2, e) && hidden_of(p2, h1, e) != hidden_of(p2, h2, e)
 }
 
-// The smallest execution where the hidden parties of two hidden lists differ, or M.
-pub fn execution_of(k: Numbers, p2: &[u8], h1: &[u8], h2: &[u8]) -> usize
-    ensures value { (K : Key) (P R : Parts) → Of k K → P.p2 ≡ p2.now → P.p6 ≡ h1.now → R.p2 ≡ p2.now → R.p6 ≡ h2.now → result ≡ execution K P R }
-    ensures upper_bound { result ≤ k.executions }
+// The smallest execution where the hidden parties of two hidden lists differ.
+pub fn execution_of(k: Numbers, p2: &[u8], h1: &[u8], h2: &[u8]) -> Option<usize>
+    ensures value { (K : Key) (P R : Parts) → Of k K → P.p2 ≡ p2.now → P.p6 ≡ h1.now → R.p2 ≡ p2.now → R.p6 ≡ h2.now → MatchOption result (execution K P R ≡ k.executions) (λ e. e ≡ execution K P R) }
+    ensures upper_bound { IfSome result (λ e. e < k.executions) }
 {
-    for e in 0..k.executions {
-        if forks_at(p2, h1, h2, e) {
-            return e;
-        }
-    }
-    k.executions
+    (0..k.executions).find(|&e| forks_at(p2, h1, h2, e))
 }
 
 // How many bytes part 7 holds of kept execution e.

@@ -1,7 +1,7 @@
 // Bytes as elements of GF(2^8), FIPS 197, section 4.
 #![tactic(auto)]
 
-ghost use Rattle.std.specs.Prelude.{◌≡◌, ℕ, ◌<◌, ◌%◌};
+ghost use Rattle.std.specs.Prelude.{◌≡◌, ℕ, ◌<◌};
 ghost use Rattle.gf.specs.Field.{gmul, inverse};
 
 // x times a (XTIMES): the top bit c comes back as x^4 + x^3 + x + 1, which is x + 1 and x^3 times that.
@@ -18,13 +18,6 @@ pub fn times3(a: u8) -> u8
     ensures { result ≡ gmul 3 a }
 {
     xtime(a) ^ a
-}
-
-// The lowest 8 bits of a number.
-pub fn low8(x: u64) -> u8
-    ensures { result ≡ x % 256 }
-{
-    (x & 0xff) as u8
 }
 
 // `inverse` is the inverse of the field, and takes 0 to 0.

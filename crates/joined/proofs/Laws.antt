@@ -1,30 +1,46 @@
 -- Sums of the open parties' numbers, and a list that is written over from its front.
 -- Assumes nothing.
-use Prim.Native.Nat.{ℕ, suc, ◌+◌, ◌*◌, ◌%◌, ◌<◌, ◌≤◌}
-use mathlib.Core.Path.{◌≡◌, refl}
+use Prim.Native.Nat.{ℕ, zero, suc, ◌+◌, ◌*◌, ◌%◌, ◌<◌, ◌≤◌}
+use mathlib.Core.Path.{◌≡◌, refl, sym, ap}
 use mathlib.Core.List.{List, ◌++◌}
 use native.Mathlib.Omega.{arith}
+use native.Mathlib.Numerals.{add-one}
+use native.Mathlib.Decide.{ℕ_discrete}
+use lib.Arith.{lt_of_le-ne}
 use borrow.Author.Tests.{eq-eqb, ne_eqb}
 use lib.ListN.{length, get_or, set, drop}
 use lib.Seq.{drop-cons, get_or_at}
 use Rattle.lists.specs.Tab.{tab, tab-length}
 use Rattle.lists.specs.Written.{front-more}
 use Rattle.numbers.specs.Sum.{sum}
-use Rattle.numbers.proofs.Sum.{sum_more}
+use Rattle.numbers.proofs.Sum.{sum_more, sum_ext}
 use Rattle.numbers.specs.Residue.{Residue}
 use Rattle.execution.specs.Shown.{place_of}
 use Rattle.joined.specs.Joined.{open_at, open_sum, with_party}
 
--- number j of a party that is hidden, and of one that is open
-pub open_hidden : (m hid : ℕ) (work : List ℕ) (j i : ℕ) → i ≡ hid → 0 ≡ open_at m hid work j i
-open_hidden m hid work j i e = rw (eq-eqb i hid e)
+-- the sum over the open parties: all parties' where none of them is hidden, else that less the hidden party's number
+module _ (m hid : ℕ) (work : List ℕ) (j : ℕ) where
+  abbrev pub all : ℕ → ℕ
+  all i = get_or work (place_of m i j) 0
 
-pub open_shown : (m hid : ℕ) (work : List ℕ) (j i : ℕ) → (i ≡ hid → ⊥) → get_or work (place_of m i j) 0 ≡ open_at m hid work j i
-open_shown m hid work j i e = rw (ne_eqb i hid e)
+  pub none_hidden : (n : ℕ) → n ≤ hid → sum n (open_at m hid work j) ≡ sum n all
+  none_hidden n h = sum_ext n (λ i k. rw (ne_eqb i hid (λ e. let w : ⊥ = omega arith in w)) refl)
 
--- a sum whose next term is 0
-pub sum-same : {n total : ℕ} (f : ℕ → ℕ) → total ≡ sum n f → f n ≡ 0 → total ≡ sum (n + 1) f
-sum-same {n} f e z = omega (arith, e, z, sum_more n f)
+  pub one_hidden : (n : ℕ) → hid < n → sum n (open_at m hid work j) + all hid ≡ sum n all
+  one_hidden zero h = absurd (omega arith)
+  one_hidden (suc n) h = go (ℕ_discrete n hid) (λ k. one_hidden n k)
+    where
+      next : (f : ℕ → ℕ) → sum (suc n) f ≡ sum n f + f n
+      next f = rw (← add-one n) (sum_more n f)
+
+      go : Dec (n ≡ hid) → (hid < n → sum n (open_at m hid work j) + all hid ≡ sum n all) → sum (suc n) (open_at m hid work j) + all hid ≡ sum (suc n) all
+      go (yes e) before =
+          let at : open_at m hid work j n ≡ 0 = rw (eq-eqb n hid e) refl in
+          let here : all n ≡ all hid = ap all e in
+          omega (arith, at, here, none_hidden n (omega arith), next (open_at m hid work j), next all)
+      go (no ne) before =
+          let at : open_at m hid work j n ≡ all n = rw (ne_eqb n hid ne) refl in
+          omega (arith, at, before (lt_of_le-ne (omega arith) (λ e. ne (sym e))), next (open_at m hid work j), next all)
 
 -- r is l with the first n entries written over by those of f
 pub record Front (f : ℕ → ℕ) (l : List ℕ) (n : ℕ) (r : List ℕ) : Type 0 where
@@ -48,8 +64,8 @@ pub party_is : (q m i j from old r : ℕ) (work sums : List ℕ) → old ≡ get
 unfolding with_party
 party_is q m i j from old r work sums e f h = rw (e, f) at h
 
--- the sum over all parties
-pub open_all : (q m N hid j total i r : ℕ) (work : List ℕ) → total ≡ sum i (open_at m hid work j) → i ≡ N → Residue q (total % q) r
+-- the sum modulo q, from the sum over all parties
+pub open_all : (q m N hid j total r : ℕ) (work : List ℕ) → total ≡ sum N (open_at m hid work j) → Residue q (total % q) r
     → Residue q (open_sum q m N hid work j) r
 unfolding open_sum
-open_all q m N hid j total i r work e z h = rw (e, z) at h
+open_all q m N hid j total r work e h = rw e at h

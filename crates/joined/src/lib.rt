@@ -6,21 +6,26 @@ ghost use Rattle.lists.specs.Tab.{tab};
 ghost use Rattle.numbers.specs.Residue.{Residue};
 ghost use Rattle.joined.specs.Joined.{open_sum, with_party};
 
-use execution::Sharing;
+use execution::shares::column;
+use execution::{Sharing, fill};
 
-// The sum over the parties that are open of number j of each, modulo q.
+// The sum over the parties that are open of number j of each, modulo q. The contract takes any number as `hidden`: one that is no party's
+// hides nobody.
 fn open_sum(sharing: Sharing, hidden: usize, j: usize, work: &[u32]) -> u32
     requires j_bound { j < 3 * sharing.m }
     requires work_long { 3 * sharing.m * sharing.parties ≤ length work.now }
     ensures { Residue sharing.modulus.q (open_sum sharing.modulus.q sharing.m sharing.parties hidden work.now j) result }
 {
-    let mut total: u64 = 0;
-    for i in 0..sharing.parties {
-        if i != hidden {
-            total += u64::from(work[3 * sharing.m * i + j]);
-        }
+    let Sharing {
+        modulus,
+        m,
+        parties,
+    } = sharing;
+    let all = column(work, j, 3 * m, parties);
+    if hidden >= parties {
+        return modulus.reduced(all);
     }
-    sharing.modulus.reduced(total)
+    modulus.reduced(all - u64::from(work[3 * m * hidden + j]))
 }
 
 // Each of the 3m numbers, b, then d, then s, summed over the parties that are open, modulo q.
@@ -29,9 +34,7 @@ pub fn join_open(sharing: Sharing, hidden: usize, work: &[u32], sums: &mut [u32]
     requires sums_long { length sums.old ≡ 3 * sharing.m }
     ensures { sums.new ≡ tab (3 * sharing.m) (open_sum sharing.modulus.q sharing.m sharing.parties hidden work.now) }
 {
-    for (j, sum) in sums.iter_mut().enumerate() {
-        *sum = open_sum(sharing, hidden, j, work);
-    }
+    fill(sums, |j| open_sum(sharing, hidden, j, work));
 }
 
 // Party i's 3m numbers added to the sums, modulo q.

@@ -22,10 +22,6 @@ use Rattle.key.specs.KeyLaws.{entries_of, key_is}
 use Rattle.transcript.specs.Layout.{part-long}
 use Rattle.judge.specs.Lists.{parts_lists, run_lists}
 
--- the numbers of an execution
-pub work_most : (m N : ℕ) → m ≤ 128 → N ≤ 32 → 4 * m * N ≤ 16384
-work_most m N h l = mul-le-mul {n₁ = 4 * m} {m₁ = N} {n₂ = 512} {m₂ = 32} (omega arith) l
-
 pub three_of_four : (m N : ℕ) {w : ℕ} → 4 * m * N ≤ w → 3 * m * N ≤ w
 three_of_four m N {w} h = let l : 3 * m * N ≤ 4 * m * N = mul-le-mul {n₁ = 3 * m} {m₁ = N} {n₂ = 4 * m} {m₂ = N} (omega arith) (omega arith) in omega (arith, l, h)
 
@@ -96,9 +92,6 @@ module _ (key : List ℕ) (k : Numbers) (read : Read key k) where
         le-leb (4 * (key_of key).m * (key_of key).N) work (subst (λ (y : ℕ). y ≤ work) work_is h),
         (le-leb (entries (key_of key)) entry (subst (λ (y : ℕ). y ≤ entry) (entries_of k (key_of key) read.of) l), tt),
       )
-
-  pub entries_room : {n size : ℕ} → n ≡ k.n * (k.m + 1) → n ≤ size → entries (key_of key) ≤ size
-  entries_room {n} {size} e h = subst (λ (y : ℕ). y ≤ size) (e ∙ entries_of k (key_of key) read.of) h
 
   -- the first entries of what was lent make the key
   front_is : (rest : List ℕ) {l : List ℕ} {n : ℕ} → n ≡ k.n * (k.m + 1) → l ≡ tab (entries (key_of key)) (key_of key).entry ++ rest

@@ -13,7 +13,7 @@ ghost use Rattle.walk.specs.Walk.{hash_tests};
 ghost use Rattle.judge.specs.Lists.{parts_lists};
 
 use execution::Statement;
-use key::ReadKey;
+use key::{Numbers, ReadKey};
 use refusals::Refusal;
 use transcript::FileParts;
 use walk::{Run, hashes};
@@ -62,25 +62,35 @@ pub fn judge_parts(
 {
     let k = key.numbers;
     transcript::check_parts(k, parts.p2, parts.p6, parts.p7)?;
+    let Numbers {
+        modulus,
+        n,
+        m,
+        parties,
+        depth,
+        executions,
+        opened,
+        ..
+    } = k;
     let statement = Statement {
-        modulus: k.modulus,
-        n: k.n,
-        m: k.m,
-        parties: k.parties,
-        depth: k.depth,
+        modulus,
+        n,
+        m,
+        parties,
+        depth,
         entries: key.entries,
     };
     let run = Run {
         statement,
-        executions: k.executions,
-        openings: k.opened,
+        executions,
+        openings: opened,
         parts,
     };
     hashes::walk(run, lists, work)?;
-    let kept = k.executions - k.opened;
-    let from = 16 * k.opened + 32 * kept;
+    let kept = executions - opened;
+    let from = 16 * opened + 32 * kept;
     check_lists(
-        k.executions,
+        executions,
         kept,
         parts.p1,
         &parts.p3[from..from + 32],

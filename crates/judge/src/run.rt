@@ -40,6 +40,8 @@ pub fn judge(key: &[u8], run: &[u8], entries: &mut [u32], work: &mut [u32]) -> R
 {
     let numbers = key::read(key)?;
     let count = key::entry_count(numbers.n, numbers.m);
+    // Two lists are lent, where a prover's call is lent an output too and a pair four more: each tests its own. `pair` opens its key in
+    // the same steps; this test stands between them, so one function for both would take it as a closure.
     if work.len() < 4 * numbers.m * numbers.parties {
         return Err(Refusal::Room);
     }
@@ -51,7 +53,9 @@ pub fn judge(key: &[u8], run: &[u8], entries: &mut [u32], work: &mut [u32]) -> R
         numbers,
         entries: &entries[..count],
     };
+    // No heap: room for the most executions, lent from here on.
     let mut lists = [0; 3072];
+    // The length that `judge_run` asks for; `pair` has the same line for its two lists.
     let size = 32 * numbers.executions + 64 * (numbers.executions - numbers.opened);
     judge_run(read, run, &mut lists[..size], work)
 }

@@ -12,7 +12,8 @@ ghost use Rattle.kept.specs.Kept.{KeptIn, Evaluates};
 
 use execution::{Dealing, Evaluation, Lists, OpenShares, Statement, prepare};
 
-// What the judge computes of a kept execution. Ω is 0 where party N is hidden; `zero` says whether the outputs add up to 0 modulo q.
+// What the judge computes of a kept execution. Ω is 32 zero bytes where party N is hidden, as specs/Kept has it: nothing tests it then, and
+// an Option would be turned into them for the clause. `zero` says whether the outputs add up to 0 modulo q. Nothing compares or prints it.
 #[derive(Clone, Copy)]
 pub struct Evaluated {
     pub h: [u8; 32],
@@ -34,7 +35,7 @@ fn omega_at(lists: Lists, hidden: usize, execution: usize) -> [u8; 32]
     views::parties::omega_of(lists, execution)
 }
 
-// The digests of a kept execution whose seeds and shares stand in the lists.
+// The digests of a kept execution whose seeds and shares stand in the lists. Sums and outputs are lists of fixed size, as there is no heap.
 fn evaluate<'a>(
     evaluation: Evaluation<'a>,
     depth: usize,
@@ -50,11 +51,14 @@ fn evaluate<'a>(
     requires kept { Kept evaluation.modulus.q evaluation.m evaluation.parties depth evaluation.hidden reply.now leaves.now evaluation.work.now }
     ensures { (K : Key) (P : Parts) → KeptIn evaluation.entry.modulus.q evaluation.entry.n evaluation.entry.m evaluation.entry.parties depth evaluation.entry.hidden execution reply.now kappa.now seed.now evaluation.entry.entries.now K P → Evaluates K P execution result.h result.omega result.pi result.psi result.zero }
 {
-    let modulus = evaluation.modulus;
-    let m = evaluation.m;
-    let parties = evaluation.parties;
-    let hidden = evaluation.hidden;
-    let work = evaluation.work;
+    let Evaluation {
+        modulus,
+        m,
+        parties,
+        hidden,
+        work,
+        ..
+    } = evaluation;
     let numbers = 16 * depth + 32;
     let lists = Lists {
         m,
@@ -72,12 +76,13 @@ fn evaluate<'a>(
         hidden,
         work,
     };
-    let mut sums = [0u32; 128];
-    let pi = views::answers::pi_of(shares, execution, given, kappa, &mut sums);
+    let mut sums = [0; 128];
+    let sums = &mut sums[..m];
+    let pi = views::answers::pi_of(shares, execution, given, kappa, sums);
     let shown = bytes4::le32(given, m);
-    let mut outs = [0u32; 32];
+    let mut outs = [0; 32];
     let outs = &mut outs[..parties];
-    outputs::outputs(evaluation, execution, seed, shown, &sums, outs);
+    outputs::outputs(evaluation, execution, seed, shown, sums, outs);
     let psi = views::outputs::psi_of(execution, outs, kappa);
     let zero = views::outputs::sum_is_zero(modulus, outs);
     Evaluated {
@@ -89,7 +94,8 @@ fn evaluate<'a>(
     }
 }
 
-// A kept execution, from what part 7 holds of it, its seed κ and the verifier's seed L.
+// A kept execution, from what part 7 holds of it, its seed κ and the verifier's seed L. `execution_inputs` writes what is hashed here: h(e)
+// and Ω by the same functions; Γ, Π and Ψ are fed here. `side` reopens by the same call, and has those inputs written.
 pub fn kept_execution(
     statement: Statement,
     hidden: usize,

@@ -24,10 +24,13 @@ unfolding key_checks
 key_accepted x e =
     none_applies (key_checks (key_of x) x) (omega arith, (omega arith, (omega arith, (omega arith, (omega arith, tt))))) e
 
+pub member_of : {x y : ℕ} {l : List ℕ} → x ≡ y → member y l ≡ true → Member x l
+member_of {x} {y} {l} e h = subst (λ (z : ℕ). Member z l) (sym e) (record { listed = h })
+
 -- The limits of a key whose tests hold.
-pub limits_of : (K : Key) → member K.q qs ≡ true → holds (limits K) ≡ true → Limits K.q K.n K.m K.N K.M K.τ
+pub limits_held : (K : Key) → member K.q qs ≡ true → holds (limits K) ≡ true → Limits K.q K.n K.m K.N K.M K.τ
 unfolding limits
-limits_of K q h = go (holds-each (limits K) h)
+limits_held K q h = go (holds-each (limits K) h)
   where
     go : Holds (limits K) → Limits K.q K.n K.m K.N K.M K.τ
     go l =
@@ -48,12 +51,16 @@ limits_of K q h = go (holds-each (limits K) h)
           τ_below_m = ltb-true K.τ K.M l.1.1.1.1.1.1.1.1.1.0;
         }
 
--- An accepted key's numbers are within them.
+-- Those of the numbers that code carries stand with them.
+pub limits_of : (k : Numbers) (K : Key) → Of k K → member K.q qs ≡ true → holds (limits K) ≡ true → Limits k.modulus.q k.n k.m k.parties k.executions k.opened
+limits_of k K of q h = k.limits
+
+-- An accepted key's numbers are within the limits.
 pub limits_accepted : (x : List ℕ) → first (key_checks (key_of x) x) ≡ accepted → Limits (key_of x).q (key_of x).n (key_of x).m (key_of x).N (key_of x).M (key_of x).τ
 unfolding key_checks
 limits_accepted x e =
     let c : Clean (key_checks (key_of x) x) = clean (key_checks (key_of x) x) e in
-    limits_of (key_of x) (not-false _ c.1.0) (not-false _ c.1.1.0)
+    limits_held (key_of x) (not-false _ c.1.0) (not-false _ c.1.1.0)
 
 -- The numbers of k and of K give one count of entries.
 pub entries_of : (k : Numbers) (K : Key) → Of k K → k.n * (k.m + 1) ≡ entries K

@@ -14,6 +14,11 @@ pub record Of (k : Numbers) (K : Key) : Type 0 where
   pub executions_is : k.executions ≡ K.M
   pub τ_is : k.opened ≡ K.τ
 
+-- A key that begins with six numbers.
+abbrev pub begun : List ℕ → Key
+begun l =
+    record { q = get_or l 0 0; n = get_or l 1 0; m = get_or l 2 0; N = get_or l 3 0; M = get_or l 4 0; τ = get_or l 5 0; entry = λ j. 0 }
+
 -- k was read from the bytes x of a key that is accepted; A and t have n(m + 1) entries, which end the key, each below q.
 pub record Read (x : List ℕ) (k : Numbers) : Type 0 where
   pub of : Of k (key_of x)

@@ -1,4 +1,4 @@
-// A key's six numbers as code carries them.
+// A key's six numbers as code carries them, and the list of its entries, which nothing compares or prints.
 
 ghost use Rattle.std.specs.Prelude.{◌+◌, ◌*◌, ◌≤◌, length};
 ghost use Rattle.key.specs.Limits.{Limits, Depth};
@@ -6,7 +6,7 @@ ghost use Rattle.key.specs.Limits.{Limits, Depth};
 use numbers::Modulus;
 
 // q, n, m, N, log2 N, M, τ of a key that is accepted.
-#[derive(Clone, Copy)]
+#[derive(Clone, Copy, Debug, PartialEq, Eq)]
 pub struct Numbers {
     pub modulus: Modulus,
     pub n: usize,

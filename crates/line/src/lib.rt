@@ -1,4 +1,4 @@
-// The line that the program prints: a verdict as text.
+// The line that the program prints: a verdict as text. Texts stand in front of the caller's lists, since there is no heap.
 #![tactic(auto)]
 
 ghost use Rattle.std.specs.Prelude.{◌≡◌, ◌++◌, ◌≤◌, length, take, drop};
@@ -28,9 +28,9 @@ pub fn put_text(text: &[u8], out: &mut [u8]) -> usize
     n
 }
 
-// `accepted` for 0, else `refused` and the number, in front of a list of 19 bytes or more; returns the line's length. The
-// last clause follows from the others, for callers that take that part of the list. No `impl Display`: its contract leaves open
-// that a `fmt` answers an Err, and this call cannot fail.
+// `accepted` for 0, else `refused` and the number, in front of a list of 19 bytes or more; returns the line's length. The number may be any
+// of 32 bits, and a Result with a refusal would be one of 24. The last clause follows from the others, for callers that take that part of
+// the list. No `impl Display`: its contract leaves open that a `fmt` answers an Err, and this call cannot fail.
 pub fn verdict_line(number: u32, out: &mut [u8]) -> usize
     requires { 19 ≤ length out.old }
     ensures value { result ≡ length (line_of number) }

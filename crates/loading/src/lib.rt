@@ -1,4 +1,4 @@
-// The first bytes of an input or a file, in front of a list.
+// The first bytes of an input or a file, in front of the caller's list, since there is no heap.
 #![tactic(auto)]
 
 ghost use Rattle.std.specs.Prelude.{◌≡◌, ◌≤◌, length, take};
@@ -9,26 +9,18 @@ use std::io::Read;
 use std::rt::Files;
 use std::{fs, io};
 
-// The next bytes of an input in front of a list; returns how many they are, 0 at the input's end and where the read fails.
-fn read_some<R: Read>(input: &mut R, out: &mut [u8]) -> usize
-    ensures in_bounds { (result ≤ length out.new) × (result ≡ length (take result out.new)) }
-    ensures bytes { Consumes (R.remaining input.old) (R.remaining input.new) (take result out.new) }
-{
-    match input.read(out) {
-        Ok(n) => n,
-        Err(_) => 0,
-    }
-}
-
-// The next bytes of an input in front of a list, until it is full, the input ends or a read fails; returns how many they are. A full list ends
-// it by a read of no bytes: clang takes a read into a list that it knows not to be empty for one that never answers 0.
+// The next bytes of an input in front of a list, until it is full, the input ends or a read fails; returns how many they are. There is no
+// test for a full list, which a read of no bytes ends: behind such a test clang takes the read for one that never answers 0. The clause on
+// the length follows from the bound beside it, for callers that take that part of the list.
 pub fn fill<R: Read>(input: &mut R, out: &mut [u8]) -> usize
     ensures in_bounds { (result ≤ length out.new) × (result ≡ length (take result out.new)) }
     ensures bytes { Consumes (R.remaining input.old) (R.remaining input.new) (take result out.new) }
 {
     let mut done = 0;
     loop {
-        let n = read_some(input, &mut out[done..]);
+        let Ok(n) = input.read(&mut out[done..]) else {
+            return done;
+        };
         if n == 0 {
             return done;
         }

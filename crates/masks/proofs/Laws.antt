@@ -1,14 +1,18 @@
 -- Laws for the b and s of an execution that is dealt.
 -- Assumes nothing.
-use Prim.Native.Nat.{ℕ, suc, ◌+◌, ◌*◌, ◌-◌, ◌/◌, ◌%◌, ◌^◌, ◌<◌}
+use Prim.Native.Nat.{ℕ, suc, ◌+◌, ◌*◌, ◌-◌, ◌/◌, ◌%◌, ◌^◌, ◌<◌, ◌≤◌}
 use mathlib.Core.Path.{◌≡◌, sym, ◌∙◌, ap, subst}
-use mathlib.Core.List.{List}
+use mathlib.Core.List.{List, [], ◌++◌}
 use native.Mathlib.Nat.{zero-add}
 use native.Mathlib.Decide.{ℕ_discrete}
 use native.Mathlib.Omega.{arith}
 use borrow.Author.Tests.{eq-eqb, ne_eqb}
 use lib.Arith.{lt_of_le-ne}
-use lib.ListN.{length, get_or}
+use Rattle.std.proofs.lemmas.List.{length-replicate, get_or-replicate}
+use lib.ListN.{length, get_or, take, drop, length-drop, replicate}
+use lib.Seq.{length-take-le}
+use Rattle.std.specs.Simd.{first_chunks}
+use Rattle.lists.proofs.Chains.{chunk_at}
 use Rattle.lists.specs.Index.{pick, cat, part}
 use Rattle.numbers.specs.Mod.{sub}
 use Rattle.numbers.proofs.Mod.{sub-lt}
@@ -19,7 +23,7 @@ use Rattle.protocol.specs.Key.{Key, depth}
 use Rattle.protocol.specs.Shares.{is_n, share, b, s, dealt}
 use Rattle.execution.specs.Shown.{place_of}
 use Rattle.execution.specs.Lists.{Put, last_s, Reduced}
-use Rattle.execution.proofs.Laws.{inside}
+use Rattle.execution.proofs.Laws.{inside, put-part}
 use Rattle.execution.proofs.Dealt.{with_key, share_number, before_last, dealt_seeds}
 use Rattle.masks.specs.Masks.{Row, Masks, Carried, Masked}
 
@@ -32,6 +36,15 @@ number_later q seed c m j =
     ap (λ x. word64 (block seed x) (8 * (j % 2)) % q) half ∙ ap (λ x. word64 (block seed (c + (2 * m + j) / 2)) (8 * x) % q) rest
 
 -- ---- one party
+-- a part that came back as zeros
+pub put_zeros : (xs ys : List ℕ) (a c n : ℕ) → a + c ≤ length xs → n ≡ a + c - a → ys ≡ replicate (length (take n (drop a xs))) 0
+    → Put a c (λ _. 0) xs (take a xs ++ (ys ++ drop n (drop a xs)))
+put_zeros xs ys a c n h long e =
+    let z : n ≡ c = omega arith in
+    let all : length (take n (drop a xs)) ≡ c = rw z (length-take-le c (drop a xs) (simp length-drop (omega arith))) in
+    let zs : ys ≡ replicate c 0 = rw all at e in
+    rw z (put-part xs ys a c (λ _. 0) h (rw zs (length-replicate c 0)) (λ j k. rw zs (get_or-replicate c j 0 0 k)))
+
 module _ {q m N i : ℕ} {seed before one two : List ℕ} (bs : Put (3 * m * i) m (number q seed 2) before one) (zs : Put (3 * m * i + m) m (λ _. 0) one two) where
   pub row_last : i + 1 ≡ N → Row q m N i seed before two
   row_last e =
@@ -65,9 +78,10 @@ one_more P n low here i h = go (ℕ_discrete i n)
     go (yes e) = subst P (sym e) here
     go (no ne) = low i (lt_of_le-ne (omega arith) ne)
 
-pub masks_next : {q m N n : ℕ} {leaves seed work after : List ℕ} → seed ≡ part leaves (16 * n) 16 → Row q m N n seed work after
+pub masks_next : {q m N n k : ℕ} {leaves seed work after : List ℕ} → n < k → seed ≡ get_or (first_chunks 16 k leaves) n [] → Row q m N n seed work after
     → Masks q m N leaves work n → Masks q m N leaves after (n + 1)
-masks_next {q} {m} {N} {n} {leaves} {seed} {work} {after} is row so =
+masks_next {q} {m} {N} {n} {k} {leaves} {seed} {work} {after} h chunk row so =
+    let is : seed ≡ part leaves (16 * n) 16 = chunk ∙ chunk_at 16 k n leaves h in
     record {
       bs = λ i j h k.
           one_more (λ i. get_or after (place_of m i j) 0 ≡ number q (part leaves (16 * i) 16) 2 j) n

@@ -2,18 +2,10 @@
 #![tactic(auto)]
 
 ghost use Rattle.std.specs.Prelude.{◌≡◌, ◌+◌, ◌*◌, ◌<◌, ◌≤◌, length};
-ghost use Rattle.execution.specs.Lists.{Put, Reduced};
+ghost use Rattle.execution.specs.Lists.{Reduced};
 ghost use Rattle.masks.specs.Masks.{Row, Masks, Masked};
 
 use execution::{Dealing, Sharing, shares};
-
-// `count` zeros to the work list from place `from` on.
-fn put_zeros(from: usize, count: usize, work: &mut [u32])
-    requires { from + count ≤ length work.old }
-    ensures { Put from count (λ _. 0) work.old work.new }
-{
-    work[from..from + count].fill(0);
-}
 
 // Party i's b, zeros in place of its d, and its s unless it is party N.
 fn draw_row(sharing: Sharing, i: usize, seed: &[u8; 16], work: &mut [u32])
@@ -24,14 +16,14 @@ fn draw_row(sharing: Sharing, i: usize, seed: &[u8; 16], work: &mut [u32])
     let Sharing { modulus, m, .. } = sharing;
     let from = 3 * m * i;
     shares::draw(modulus, seed, 2, from, m, work);
-    put_zeros(from + m, m, work);
-    if i + 1 == sharing.parties {
-        return;
+    work[from + m..from + 2 * m].fill(0);
+    if i + 1 < sharing.parties {
+        shares::draw(modulus, seed, 2 + m as u64, from + 2 * m, m, work);
     }
-    shares::draw(modulus, seed, 2 + m as u64, from + 2 * m, m, work);
 }
 
-// Each party's b, and each but party N's s.
+// Each party's b, and each but party N's s. `shares::draw_shares` draws another row of each seed: one walk would take that step, which writes
+// to `work`, as a closure.
 #[tactic(auto, using(crate::proofs::Laws::masks_next))]
 fn draw_masks(sharing: Sharing, leaves: &[u8], work: &mut [u32])
     requires leaves_long { length leaves.now ≡ 16 * sharing.parties }
@@ -39,13 +31,13 @@ fn draw_masks(sharing: Sharing, leaves: &[u8], work: &mut [u32])
     ensures masks { Masks sharing.modulus.q sharing.m sharing.parties leaves.now work.new sharing.parties }
     ensures work_len_unchanged { length work.new ≡ length work.old }
 {
-    for i in 0..sharing.parties {
-        let seed = leaves[16 * i..16 * i + 16].try_into().unwrap();
+    let (seeds, _) = leaves.as_chunks();
+    for (i, seed) in seeds.iter().enumerate() {
         draw_row(sharing, i, seed, work);
     }
 }
 
-// The seeds, b and s of the prover's execution, from its master seed and the secret.
+// The seeds, b and s of the prover's execution, from its master seed and the secret. `prepare::deal` draws d too: see `deal_opened` there.
 pub fn deal_masks(
     dealing: Dealing,
     master: &[u8; 16],

@@ -1,16 +1,16 @@
 -- Laws for message 3.
 -- Assumes nothing.
-use Prim.Native.Nat.{ℕ, suc, ◌+◌, ◌*◌, ◌-◌, ◌≤◌}
+use Prim.Native.Nat.{ℕ, suc, ◌+◌, ◌*◌, ◌-◌, ◌≤◌, ◌<◌}
 use mathlib.Core.Path.{◌≡◌, refl, sym, ◌∙◌, ap, ap₂, subst}
 use mathlib.Core.Bool.{true, false}
 use mathlib.Core.List.{List, [], ◌++◌, append_assoc}
 use native.Mathlib.Omega.{arith}
-use lib.ListN.{length, get_or, take, drop, length-append, length-drop}
-use lib.Seq.{drop-drop, take_at, drop_at}
-use Rattle.lists.specs.Written.{both_parts, built_all, built_more, built_none, puts_none, puts_some}
+use lib.ListN.{length, get_or, take, drop}
+use Rattle.lists.specs.Written.{parts_joined, built_item, built_none}
 use Rattle.lists.specs.Index.{cat, pick, part}
 use Rattle.lists.specs.Bytes.{nums}
-use Rattle.sha.specs.State.{Stands, Fed}
+use Rattle.lists.specs.CatLaws.{cat-more}
+use Rattle.sha.specs.State.{Stands, Fed, fed_join, fed_nil}
 use Rattle.sha.specs.declared.Sha.{Sha}
 use Rattle.sha_core.specs.Fips180.{sha256}
 use Rattle.streams.specs.Streams.{block}
@@ -24,7 +24,8 @@ use Rattle.execution.specs.Lists.{alpha_at}
 use Rattle.masks.specs.Masks.{Carried, Masked}
 use Rattle.views.specs.Seen.{ForΩ, ForΠ}
 use Rattle.views.proofs.Laws.{pi_is}
-use Rattle.message_3.specs.Parts.{OmegaOf, PiOf, KeptPuts, KeptBuilt, KeptAll, KeptPart, Rest}
+use Rattle.prover.proofs.Chosen.{built_skip, cat_skip}
+use Rattle.message_3.specs.Parts.{OmegaOf, PiOf, KeptBuilt, Rest}
 
 -- ---- one execution that is dealt
 module _ {q m N e : ℕ} {leaves work : List ℕ} (K : Key) (v : View) (sized : Sized q m N K) (some : 1 ≤ N) (ex : v.ex ≡ e) (whole : v.hid ≡ K.N) (S : Carried K v leaves work) where
@@ -78,49 +79,43 @@ pi_of {e} {master} {secret} {κ} given some so is =
           is ∙ ap sha256 (pi_is (for_pi K (dealt K e master (λ k. get_or secret k 0)) sized some refl refl (so.carried K e sized deep) given) κ);
     }
 
--- Ω and Π go to their place
-pub kept-none : {q m N D x at : ℕ} {E seeds secret κ o p : List ℕ} → opened E x ≡ true → KeptPuts q m N D x at at E seeds secret κ o o p p
-kept-none {x} {at} {E} {o} {p} e =
-    record { to_is = rw e (omega arith); Ω = λ K sized deep. rw e (puts_none at o); Π = λ K sized deep. rw e (puts_none at p) }
+-- Ω goes to its place, and Π to the hash
+pub kept-start : {q m N D : ℕ} {E seeds secret κ : List ℕ} (o : List ℕ) (s : Sha) → KeptBuilt q m N D 0 0 E seeds secret κ o o s s
+unfolding cat
+kept-start o s = record { Ω = λ K sized deep. built_none _ o; Π = λ K sized deep. fed_nil s }
 
-pub kept_some : {q m N D x at : ℕ} {E seeds secret κ o p a b a' b' : List ℕ} → opened E x ≡ false → length a ≡ 32 → length b ≡ 32
-    → OmegaOf q m N D x (part seeds (16 * x) 16) secret a → PiOf q m N D x (part seeds (16 * x) 16) secret κ b → a' ≡ a → b' ≡ b
-    → KeptPuts q m N D x at (at + 32) E seeds secret κ o (take at o ++ (a' ++ drop (at + 32 - at) (drop at o))) p (take at p ++ (b' ++ drop (at + 32 - at) (drop at p)))
+pub kept_skip : {q m N D at : ℕ} {E seeds secret κ o₀ o : List ℕ} {s₀ s : Sha} {a : ℕ} (b : ℕ) → a ≤ b → ((y : ℕ) → a ≤ y → y < b → opened E y ≡ true)
+    → KeptBuilt q m N D a at E seeds secret κ o₀ o s₀ s → KeptBuilt q m N D b at E seeds secret κ o₀ o s₀ s
+kept_skip {E = E} {seeds = seeds} {secret = secret} {κ = κ} {s₀ = s₀} {s = s} {a = a} b l h so =
+    record {
+      Ω = λ K sized deep. built_skip b l (λ y c d. rw (h y c d) refl) (so.Ω K sized deep);
+      Π = λ K sized deep.
+          subst (λ d. Fed s₀ d s) (sym (cat_skip a b (λ e. pick (opened E e) [] (sha256 (Πin K (prover_view K seeds secret e) κ))) l (λ y c d. rw (h y c d) refl))) (so.Π K sized deep);
+    }
+
+pub kept_some : {q m N D x at : ℕ} {E seeds secret κ o₀ o a b a' : List ℕ} {s₀ s t : Sha} → opened E x ≡ false → length a ≡ 32
+    → OmegaOf q m N D x (part seeds (16 * x) 16) secret a → PiOf q m N D x (part seeds (16 * x) 16) secret κ b → a' ≡ a → Fed s b t
+    → KeptBuilt q m N D x at E seeds secret κ o₀ o s₀ s
+    → KeptBuilt q m N D (x + 1) (at + 32) E seeds secret κ o₀ (take at o ++ (a' ++ drop (at + 32 - at) (drop at o))) s₀ t
 unfolding prover_view
-kept_some {at} {o} {p} {a} {b} e la lb ω π v w =
+kept_some {x = x} {E = E} {seeds = seeds} {secret = secret} {κ = κ} {a = a} e l ω π v fed b =
     record {
-      to_is = rw e refl;
-      Ω = λ K sized deep. rw (v, e, ← ω.is K sized deep) (puts_some at 32 a o la);
-      Π = λ K sized deep. rw (w, e, ← π.is K sized deep) (puts_some at 32 b p lb);
+      Ω = λ K sized deep. rw v (built_item 32 a (b.Ω K sized deep) (rw (e, ← ω.is K sized deep) refl) l);
+      Π = λ K sized deep.
+          rw (cat-more x (λ e. pick (opened E e) [] (sha256 (Πin K (prover_view K seeds secret e) κ))), e, ← π.is K sized deep) (fed_join (b.Π K sized deep) fed);
     }
 
-pub kept-start : {q m N D : ℕ} {E seeds secret κ : List ℕ} (o p : List ℕ) → KeptBuilt q m N D 0 0 E seeds secret κ o o p p
-kept-start o p = record { Ω = λ K sized deep. built_none _ o; Π = λ K sized deep. built_none _ p }
-
-pub kept_more : {q m N D x at to : ℕ} {E seeds secret κ o₀ o p₀ p o' p' : List ℕ} → KeptBuilt q m N D x at E seeds secret κ o₀ o p₀ p
-    → KeptPuts q m N D x at to E seeds secret κ o o' p p' → KeptBuilt q m N D (x + 1) to E seeds secret κ o₀ o' p₀ p'
-kept_more a b =
-    record { Ω = λ K sized deep. built_more (a.Ω K sized deep) (b.Ω K sized deep) refl; Π = λ K sized deep. built_more (a.Π K sized deep) (b.Π K sized deep) refl }
-
-pub kept_all : {q m N D x M at : ℕ} {E seeds secret κ o₀ o p₀ p : List ℕ} → KeptBuilt q m N D x at E seeds secret κ o₀ o p₀ p → x ≡ M
-    → length o₀ ≤ at → length p₀ ≤ at → KeptAll q m N D M E seeds secret κ o p
-kept_all a e h k =
-    record { Ω = λ K sized deep. built_all (a.Ω K sized deep) e h; Π = λ K sized deep. built_all (a.Π K sized deep) e k }
-
-pub kept-part : {q m N D M : ℕ} {E seeds secret κ o p : List ℕ} {s₀ s : Sha} {r : List ℕ} → KeptAll q m N D M E seeds secret κ o p
-    → Begun 5 0 0 s₀ → Fed s₀ p s → ((d : List ℕ) → Stands s d → r ≡ sha256 d) → KeptPart q m N D M E seeds secret κ o r
+pub rest_of : {q m N D M : ℕ} {E seeds secret κ o₀ o h r : List ℕ} {s₀ s : Sha} (x at : ℕ) → Begun 5 0 0 s₀ → KeptBuilt q m N D x at E seeds secret κ o₀ o s₀ s → x ≡ M
+    → ((d : List ℕ) → Stands s d → h ≡ sha256 d) → r ≡ h
+    → Rest q m N D M E seeds secret κ (take at o ++ (r ++ drop (length o - at) (drop at o)))
 unfolding hπin kept
-kept-part {M} {E} {seeds} {secret} {κ} a begun fed f =
+rest_of {E = E} {seeds = seeds} {secret = secret} {κ = κ} {o₀ = o₀} {r = r} x at begun a e f is =
     record {
-      Ω = a.Ω;
-      hπ = λ K sized deep eM.
-          f _ (begun.stands _ _ fed)
-          ∙ ap (λ x. sha256 (input 5 0 0 x))
-          (a.Π K sized deep ∙ ap (λ n. cat n (λ e. pick (opened E e) [] (sha256 (Πin K (prover_view K seeds secret e) κ)))) (sym eM));
+      is = λ K sized deep eM.
+          let ω = a.Ω K sized deep in
+          let h = is ∙ (f _ (begun.stands _ _ (a.Π K sized deep)) ∙ ap (λ n. sha256 (input 5 0 0 (cat n (λ e. pick (opened E e) [] (sha256 (Πin K (prover_view K seeds secret e) κ)))))) (e ∙ sym eM)) in
+          rw ω.is (parts_joined o₀ (cat x (λ e. pick (opened E e) [] (sha256 (Ωin K (prover_view K seeds secret e))))) r at (sym ω.long) (ap (λ n. cat n (λ e. pick (opened E e) [] (sha256 (Ωin K (prover_view K seeds secret e))))) e) h);
     }
-
-pub rest_of : {q m N D M : ℕ} {E seeds secret κ a b h : List ℕ} → KeptPart q m N D M E seeds secret κ a h → b ≡ h → Rest q m N D M E seeds secret κ (a ++ b)
-rest_of k e = record { is = λ K sized deep eM. ap₂ (λ x y. x ++ y) (k.Ω K sized deep) (e ∙ k.hπ K sized deep eM) }
 
 pub message3_of : {q m N D M : ℕ} {E seeds secret κ a b : List ℕ} (K : Key) → Rest q m N D M E seeds secret κ b → Sized q m N K → depth K ≡ D → K.M ≡ M
     → a ≡ cat M (λ e. pick (opened E e) (part seeds (16 * e) 16) []) → a ++ b ≡ message3 K seeds secret E κ
@@ -131,20 +126,3 @@ message3_of {M} {E} {seeds} {secret} {κ} {a} {b} K r sized deep eM ea =
     (sym
     (append_assoc (cat K.M (λ e. pick (opened E e) (part seeds (16 * e) 16) []))
     (cat K.M (λ e. pick (opened E e) [] (sha256 (Ωin K (prover_view K seeds secret e))))) (sha256 (hπin K (prover_view K seeds secret) E κ))))
-
-pub rest_write : {q m N D M : ℕ} {E seeds secret κ : List ℕ} (out a b h : List ℕ) (mid : ℕ) → length a ≡ mid
-    → KeptPart q m N D M E seeds secret κ a h → b ≡ h
-    → Rest q m N D M E seeds secret κ (take mid (a ++ drop mid out) ++ (b ++ drop (length (a ++ drop mid out) - mid) (drop mid (a ++ drop mid out))))
-rest_write out a b h mid l r e = rw (both_parts out a b mid l) (rest_of r e)
-
--- the first half is written to the front of an output, the second behind it, up to an end
-pub relent_length : (out a : List ℕ) (mid : ℕ) → length a ≡ mid → mid ≤ length out → length (a ++ drop mid out) ≡ length out
-relent_length out a mid h k = omega (arith, length-append a (drop mid out), length-drop mid out)
-
-pub write_3 : {q m N D M : ℕ} {E seeds secret κ : List ℕ} (K : Key) (out a b : List ℕ) (mid end : ℕ) → length a ≡ mid → mid ≤ end
-    → Rest q m N D M E seeds secret κ b → Sized q m N K → depth K ≡ D → K.M ≡ M → a ≡ cat M (λ e. pick (opened E e) (part seeds (16 * e) 16) [])
-    → take mid (a ++ drop mid out) ++ (b ++ drop (end - mid) (drop mid (a ++ drop mid out))) ≡ message3 K seeds secret E κ ++ drop end out
-write_3 K out a b mid end l h r sized deep eM ea =
-    let z : mid + (end - mid) ≡ end = omega arith in
-    rw (take_at a (drop mid out) mid l, drop_at a (drop mid out) mid l, drop-drop (end - mid) mid out, z)
-    (sym (append_assoc a b (drop end out)) ∙ ap (λ (x : List ℕ). x ++ drop end out) (message3_of K r sized deep eM ea))

@@ -1,153 +1,143 @@
 // Message 3: the opened executions' master seeds, Ω of each kept execution, and hπ.
 #![tactic(auto)]
 
-ghost use Rattle.std.specs.Prelude.{◌≡◌, not, [], ◌++◌, ◌+◌, ◌*◌, ◌-◌, ◌<◌, ◌≤◌, length, drop};
+ghost use Rattle.std.specs.Prelude.{◌≡◌, not, [], ◌+◌, ◌*◌, ◌<◌, ◌≤◌, length};
 ghost use Rattle.lists.specs.Index.{cat, pick, part, count};
-ghost use Rattle.protocol.specs.Key.{Key, key_of};
-ghost use Rattle.protocol.specs.Prover.{opened, message3, verdict3, output};
-ghost use Rattle.key.specs.Numbers.{Of};
+ghost use Rattle.protocol.specs.Key.{key_of};
+ghost use Rattle.protocol.specs.Prover.{opened, checks3, message3, verdict3, output};
 ghost use Rattle.prover.specs.Answers.{answer_of, said};
-ghost use Rattle.message_3.specs.Parts.{OmegaOf, PiOf, KeptAll, Rest};
+ghost use Rattle.message_3.specs.Parts.{OmegaOf, PiOf, Rest};
 
 use execution::{Dealing, Lists, OpenShares, commit};
 use forms::is_opened;
-use prover::{Lent, Materials, checks};
+use key::Numbers;
+use prover::{Call, Given, Materials, checks};
 use refusals::Refusal;
 use views::{answers, parties};
 
-// The master seeds of the opened executions.
+// The master seeds of the opened executions. The turns of `rest` and of messages 5 and 7 are others: one walk for all would take the turn
+// as a closure that changes lists and hash, and its clauses would be the loop's invariant again.
 fn masters(materials: Materials, out: &mut [u8])
-    requires { length out.old ≡ 16 * count materials.numbers.executions (opened materials.e.now) }
-    ensures { out.new ≡ cat materials.entry.numbers.executions (λ x. pick (opened materials.entry.e.now x) (part materials.entry.seeds.now (16 * x) 16) []) }
+    requires { length out.old ≡ 16 * count materials.numbers.executions (opened materials.given.e.now) }
+    ensures { out.new ≡ cat materials.entry.numbers.executions (λ x. pick (opened materials.entry.given.e.now x) (part materials.entry.given.seeds.now (16 * x) 16) []) }
 {
     let mut at = 0;
-    for x in 0..materials.numbers.executions {
-        if !is_opened(materials.e, x) {
-            continue;
-        }
+    let e = materials.given.e;
+    for x in (0..materials.numbers.executions).filter(|&x| is_opened(e, x)) {
         let end = at + 16;
-        out[at..end].copy_from_slice(prover::master(materials.seeds, x));
+        out[at..end].copy_from_slice(prover::master(materials.given.seeds, x));
         at = end;
     }
 }
 
-// Ω and Π of execution x, which is dealt from its master seed and the secret.
-fn omega_and_pi(
-    materials: Materials,
-    x: usize,
-    leaves: &mut [u8],
-    work: &mut [u32],
-) -> ([u8; 32], [u8; 32])
+// Ω and Π of execution x, which is dealt from its master seed and the secret. Messages 1, 5 and 7 and the judge fill the lists by other
+// functions and make other hashes of them: alike are the types alone.
+fn omega_and_pi(materials: Materials, x: usize, work: &mut [u32]) -> ([u8; 32], [u8; 32])
     requires x_bound { x < materials.numbers.executions }
-    requires leaves_long { length leaves.old ≡ 16 * materials.numbers.parties }
     requires work_long { 3 * materials.numbers.m * materials.numbers.parties ≤ length work.old }
-    ensures omega { OmegaOf materials.entry.numbers.modulus.q materials.entry.numbers.m materials.entry.numbers.parties materials.entry.numbers.depth x (part materials.entry.seeds.now (16 * x) 16) materials.entry.secret.now result.0 }
-    ensures pi { PiOf materials.entry.numbers.modulus.q materials.entry.numbers.m materials.entry.numbers.parties materials.entry.numbers.depth x (part materials.entry.seeds.now (16 * x) 16) materials.entry.secret.now materials.entry.kappa.now result.1 }
-    ensures leaves_len_unchanged { length leaves.new ≡ length leaves.old }
+    ensures omega { OmegaOf materials.entry.numbers.modulus.q materials.entry.numbers.m materials.entry.numbers.parties materials.entry.numbers.depth x (part materials.entry.given.seeds.now (16 * x) 16) materials.entry.given.secret.now result.0 }
+    ensures pi { PiOf materials.entry.numbers.modulus.q materials.entry.numbers.m materials.entry.numbers.parties materials.entry.numbers.depth x (part materials.entry.given.seeds.now (16 * x) 16) materials.entry.given.secret.now materials.entry.given.kappa.now result.1 }
     ensures work_len_unchanged { length work.new ≡ length work.old }
 {
-    let k = materials.numbers;
+    let Numbers {
+        modulus,
+        m,
+        parties,
+        depth,
+        ..
+    } = materials.numbers;
     let dealing = Dealing {
-        modulus: k.modulus,
-        m: k.m,
-        parties: k.parties,
-        depth: k.depth,
+        modulus,
+        m,
+        parties,
+        depth,
     };
+    // No heap: room for the seeds of the most parties.
+    let mut room = [0; 512];
+    let leaves = &mut room[..16 * parties];
     masks::deal_masks(
         dealing,
-        prover::master(materials.seeds, x),
-        materials.secret,
+        prover::master(materials.given.seeds, x),
+        materials.given.secret,
         leaves,
         work,
     );
     let lists = Lists {
-        m: k.m,
-        parties: k.parties,
+        m,
+        parties,
         leaves,
         work,
     };
+    // N for nobody hidden, as in `execution::shares`.
     let shares = OpenShares {
-        modulus: k.modulus,
-        m: k.m,
-        parties: k.parties,
-        hidden: k.parties,
+        modulus,
+        m,
+        parties,
+        hidden: parties,
         work,
     };
-    let mut sums = [0u32; 128];
+    let kappa = materials.given.kappa.try_into().unwrap();
+    // No heap: room for the most columns.
+    let mut sums = [0; 128];
     (
         parties::omega_of(lists, x),
-        answers::pi_of(shares, x, &[], materials.kappa, &mut sums),
+        answers::pi_of(shares, x, &[], kappa, &mut sums),
     )
-}
-
-// Ω and Π of the kept executions.
-fn kept_hashes(
-    materials: Materials,
-    leaves: &mut [u8],
-    work: &mut [u32],
-    out: &mut [u8],
-    pis: &mut [u8],
-)
-    requires leaves_long { length leaves.old ≡ 16 * materials.numbers.parties }
-    requires work_long { 3 * materials.numbers.m * materials.numbers.parties ≤ length work.old }
-    requires out_long { length out.old ≡ 32 * count materials.numbers.executions (λ j. not (opened materials.e.now j)) }
-    requires pis_long { length pis.old ≡ length out.old }
-    ensures { KeptAll materials.entry.numbers.modulus.q materials.entry.numbers.m materials.entry.numbers.parties materials.entry.numbers.depth materials.entry.numbers.executions materials.entry.e.now materials.entry.seeds.now materials.entry.secret.now materials.entry.kappa.now out.new pis.new }
-{
-    let mut at = 0;
-    for x in 0..materials.numbers.executions {
-        if is_opened(materials.e, x) {
-            continue;
-        }
-        let end = at + 32;
-        let (omega, pi) = omega_and_pi(materials, x, leaves, work);
-        out[at..end].copy_from_slice(&omega);
-        pis[at..end].copy_from_slice(&pi);
-        at = end;
-    }
 }
 
 // Ω of the kept executions followed by hπ, into a list of that length.
 fn rest(materials: Materials, work: &mut [u32], out: &mut [u8])
     requires work_long { 3 * materials.numbers.m * materials.numbers.parties ≤ length work.old }
-    requires out_long { length out.old ≡ 32 * count materials.numbers.executions (λ j. not (opened materials.e.now j)) + 32 }
-    requires out_most { length out.old ≤ 1056 }
-    ensures { Rest materials.entry.numbers.modulus.q materials.entry.numbers.m materials.entry.numbers.parties materials.entry.numbers.depth materials.entry.numbers.executions materials.entry.e.now materials.entry.seeds.now materials.entry.secret.now materials.entry.kappa.now out.new }
+    requires out_long { length out.old ≡ 32 * count materials.numbers.executions (λ j. not (opened materials.given.e.now j)) + 32 }
+    ensures { Rest materials.entry.numbers.modulus.q materials.entry.numbers.m materials.entry.numbers.parties materials.entry.numbers.depth materials.entry.numbers.executions materials.entry.given.e.now materials.entry.given.seeds.now materials.entry.given.secret.now materials.entry.given.kappa.now out.new }
 {
-    let mut leaves = [0u8; 512];
-    let mut pis = [0u8; 1024];
-    let all = 16 * materials.numbers.parties;
-    let size = out.len() - 32;
-    kept_hashes(
-        materials,
-        &mut leaves[..all],
-        work,
-        &mut out[..size],
-        &mut pis[..size],
-    );
+    // The kind is document 01's number of this hash, as at `commit::begin`.
     let mut s = commit::begin(5, 0, 0);
-    s.update(&pis[..size]);
-    out[size..].copy_from_slice(&s.finish());
+    let mut at = 0;
+    let e = materials.given.e;
+    for x in (0..materials.numbers.executions).filter(|&x| !is_opened(e, x)) {
+        let end = at + 32;
+        let (omega, pi) = omega_and_pi(materials, x, work);
+        out[at..end].copy_from_slice(&omega);
+        s.update(&pi);
+        at = end;
+    }
+    out[at..].copy_from_slice(&s.finish());
 }
 
-// Message 3 to the front of an output, what stands behind it stays; returns its length.
-fn write(materials: Materials, work: &mut [u32], out: &mut [u8]) -> usize
-    requires opened_count { count materials.numbers.executions (opened materials.e.now) ≡ materials.numbers.opened }
-    requires kept_count { count materials.numbers.executions (λ j. not (opened materials.e.now j)) ≡ materials.numbers.executions - materials.numbers.opened }
-    requires work_long { 3 * materials.numbers.m * materials.numbers.parties ≤ length work.old }
-    requires out_long { 16 * materials.numbers.opened + 32 * (materials.numbers.executions - materials.numbers.opened) + 32 ≤ length out.old }
-    ensures value { result ≡ 16 * materials.entry.numbers.opened + 32 * (materials.entry.numbers.executions - materials.entry.numbers.opened) + 32 }
-    ensures out_after { (K : Key) → Of materials.entry.numbers K → out.new ≡ message3 K materials.entry.seeds.now materials.entry.secret.now materials.entry.e.now materials.entry.kappa.now ++ drop result out.old }
-{
-    let k = materials.numbers;
-    let mid = 16 * k.opened;
-    let end = checks::size_3(k.opened, k.executions);
-    masters(materials, &mut out[..mid]);
-    rest(materials, work, &mut out[mid..end]);
-    end
+// The inputs of message 3.
+#[derive(Clone, Copy)]
+struct Inputs<'a> {
+    given: Given<'a>,
 }
 
-// Message 3 into the output from a place on, or why not. The parameters are those of the C call, and the clauses name them.
+impl Call for Inputs<'_> {
+    ghost checks = { λ call K. checks3 K call.given.seeds.now call.given.secret.now call.given.e.now call.given.kappa.now };
+
+    ghost message = { λ call K. message3 K call.given.seeds.now call.given.secret.now call.given.e.now call.given.kappa.now };
+
+    fn check(self, key: &[u8], k: Numbers) -> Result<(), Refusal> {
+        checks::inputs_3(key, k, self.given)
+    }
+
+    fn size(self, k: Numbers) -> usize {
+        checks::size_3(k.opened, k.executions)
+    }
+
+    fn write(self, key: &[u8], k: Numbers, entries: &mut [u32], work: &mut [u32], out: &mut [u8]) {
+        let materials = Materials {
+            numbers: k,
+            given: self.given,
+        };
+        let (front, back) = out.split_at_mut(16 * k.opened);
+        masters(materials, front);
+        rest(materials, work, back);
+    }
+}
+
+// Message 3 into the output from a place on, or why not. The parameters are those of the call in C, which hands them on one by one: as a
+// struct each of the two callers would put it together.
+#[tactic(auto, unfolding(protocol::specs::Prover::verdict3))]
 pub fn message_3(
     key: &[u8],
     seeds: &[u8],
@@ -162,20 +152,11 @@ pub fn message_3(
     ensures value { said result ≡ answer_of (verdict3 key.now seeds.now secret.now e.now kappa.now (length out.old) place (length work.old) (length entries.old)) (message3 (key_of key.now) seeds.now secret.now e.now kappa.now) }
     ensures out_after { out.new ≡ output (verdict3 key.now seeds.now secret.now e.now kappa.now (length out.old) place (length work.old) (length entries.old)) (message3 (key_of key.now) seeds.now secret.now e.now kappa.now) place out.old }
 {
-    let lent = Lent {
-        size: out.len(),
-        place,
-        work: work.len(),
-        entries: entries.len(),
-    };
-    let numbers = checks::check_3(key, seeds, secret, e, kappa, lent)?;
-    let materials = Materials {
-        numbers,
+    let given = Given {
         seeds,
         secret,
         e,
-        kappa: kappa.try_into().unwrap(),
+        kappa,
     };
-    let count = write(materials, work, &mut out[place..]);
-    Ok(count)
+    prover::answer(key, Inputs { given }, out, place, entries, work)
 }

@@ -1,11 +1,11 @@
 -- Laws for message 5.
 -- Assumes nothing.
 use Prim.Native.Nat.{ℕ, ◌+◌, ◌*◌, ◌<◌, ◌≤◌}
-use mathlib.Core.Path.{◌≡◌, refl, sym, ◌∙◌, ap}
+use mathlib.Core.Path.{◌≡◌, refl, sym, ◌∙◌, ap, subst}
 use mathlib.Core.Bool.{true, false}
 use mathlib.Core.List.{List, [], ◌++◌}
 use native.Mathlib.Omega.{arith}
-use lib.ListN.{length, get_or, length-append, get_or-append}
+use lib.ListN.{get_or, get_or-append}
 use Rattle.lists.specs.Index.{cat, pick, part}
 use Rattle.lists.specs.Tab.{tab, tab-at, tab-length}
 use Rattle.lists.specs.Bytes.{words}
@@ -26,6 +26,7 @@ use Rattle.key.specs.Limits.{Depth}
 use Rattle.key.specs.Numbers.{Read}
 use Rattle.key.specs.KeyLaws.{entries_of}
 use Rattle.key.specs.declared.sizes.Numbers.{Numbers}
+use Rattle.prover.proofs.Chosen.{cat_skip}
 use Rattle.prover.proofs.Laws.{sized_of}
 use Rattle.message_5.specs.Parts.{Keyed, PsiOf, KeptFed, AllFed, Fifth}
 
@@ -50,9 +51,6 @@ psi_of {e = e} {master = master} {secret = secret} {κ = κ} {L = L} d f h =
           ∙ ap (λ x. tab x (o K (dealt K e master (λ k. get_or secret k 0)) L)) (sym k.sized.parties)));
     }
 
-pub fed_opened : {q n m N D x : ℕ} {E seeds secret κ L entries : List ℕ} {s : Sha} → opened E x ≡ true → KeptFed q n m N D x E seeds secret κ L entries s s
-fed_opened {s = s} e = record { fed = λ K k. rw e (fed_nil s) }
-
 pub fed_kept : {q n m N D x : ℕ} {E seeds secret κ L entries h : List ℕ} {s r : Sha} → opened E x ≡ false
     → PsiOf q n m N D x (part seeds (16 * x) 16) secret κ L entries h → Fed s h r → KeptFed q n m N D x E seeds secret κ L entries s r
 unfolding prover_view
@@ -68,6 +66,14 @@ all_more {E = E} {seeds = seeds} {secret = secret} {κ = κ} {L = L} x a b =
     record {
       fed = λ K k.
           rw (cat-more x (λ e. pick (opened E e) [] (sha256 (Ψin K (prover_view K seeds secret e) κ L)))) (fed_join (a.fed K k) (b.fed K k));
+    }
+
+pub all_skip : {q n m N D : ℕ} {E seeds secret κ L entries : List ℕ} {s₀ s : Sha} {a : ℕ} (b : ℕ) → a ≤ b → ((y : ℕ) → a ≤ y → y < b → opened E y ≡ true)
+    → AllFed q n m N D a E seeds secret κ L entries s₀ s → AllFed q n m N D b E seeds secret κ L entries s₀ s
+all_skip {E = E} {seeds = seeds} {secret = secret} {κ = κ} {L = L} {s₀ = s₀} {s = s} {a = a} b l h so =
+    record {
+      fed = λ K k.
+          subst (λ d. Fed s₀ d s) (sym (cat_skip a b (λ e. pick (opened E e) [] (sha256 (Ψin K (prover_view K seeds secret e) κ L))) l (λ y c d. rw (h y c d) refl))) (so.fed K k);
     }
 
 pub all_fed : {q n m N D M : ℕ} {E seeds secret κ L entries : List ℕ} {s₀ s : Sha} (x : ℕ) {r : List ℕ} → Begun 7 0 0 s₀
@@ -95,15 +101,3 @@ keyed_of x k rest {D} {l} r d is =
           ∙ tab-at (entries (key_of x)) (key_of x).entry j within));
       deep = sym (d.is (key_of x) (sym r.of.parties_is));
     }
-
--- and stand in the list that was lent for them
-pub rows_within : (x : List ℕ) (k : Numbers) (rest : List ℕ) {l : List ℕ} → Read x k → l ≡ tab (entries (key_of x)) (key_of x).entry ++ rest
-    → k.n * (k.m + 1) ≤ length l
-rows_within x k rest {l} r is =
-    omega (
-      arith,
-      entries_of k (key_of x) r.of,
-      ap length is,
-      length-append (tab (entries (key_of x)) (key_of x).entry) rest,
-      tab-length (entries (key_of x)) (key_of x).entry,
-    )

@@ -1,21 +1,20 @@
 -- Laws for message 7.
 -- Assumes nothing.
-use Prim.Native.Nat.{ℕ, ◌+◌, ◌*◌, ◌-◌, ◌<◌, ◌≤◌}
+use Prim.Native.Nat.{ℕ, ◌+◌, ◌*◌, ◌-◌, ◌<◌, ◌≤◌, zero, suc}
 use mathlib.Core.Path.{◌≡◌, refl, sym, ◌∙◌, ap, ap₂, subst}
-use mathlib.Core.Bool.{true, false}
-use mathlib.Core.List.{List, [], ◌∷◌, ◌++◌, append_assoc}
-use lib.Seq.{drop-drop, take_at, drop_at}
+use mathlib.Core.Bool.{true, false, not}
+use mathlib.Core.List.{List, [], ◌∷◌, ◌++◌}
 use native.Mathlib.Omega.{arith}
 use lib.Dec.{leb}
 use lib.ListN.{length, get_or, take, drop, get_or-append}
 use borrow.Author.Tests.{leb-true}
-use Rattle.lists.specs.Written.{built_all, built_more, built_none, puts_none, puts_some}
+use Rattle.lists.specs.Written.{built_all, built_more, built_none, puts_some}
 use Rattle.lists.specs.Tab.{tab, tab-at, tab-length}
 use Rattle.lists.specs.Index.{cat, count, pick, part}
 use Rattle.lists.specs.TestLaws.{every-at, holds-each, pick_true, pick_false}
 use Rattle.numbers.specs.Sum.{sum}
 use Rattle.numbers.proofs.Sum.{sum_ext, sum_zero, sum_more, sum_grows}
-use Rattle.protocol.specs.Key.{Key, entries}
+use Rattle.protocol.specs.Key.{Key}
 use Rattle.protocol.specs.Prover.{prover_view, opened, place, hidden_of, kept, message7, good_e, good_hidden}
 use Rattle.protocol.specs.Transcript.{Parts}
 use Rattle.protocol.specs.Judge.{hidden, given_count, reply_size}
@@ -27,7 +26,8 @@ use Rattle.key.specs.Limits.{Depth}
 use Rattle.key.specs.Numbers.{Of, key_with, of_with}
 use Rattle.transcript.specs.Replies.{parts_with, size_kept}
 use Rattle.response.specs.Replies.{DealtReply}
-use Rattle.prover.proofs.Laws.{sized_of, replies_are}
+use Rattle.prover.proofs.Laws.{sized_of}
+use Rattle.prover.proofs.Chosen.{built_skip, count_skip, was_true, was_false}
 use Rattle.message_7.specs.Parts.{reply_length, replies_length, Hides, KeyIn, reply_at, part_of, ReplyPuts, RepliesBuilt, RepliesAre, MessageIs}
 
 -- ---- one reply
@@ -57,10 +57,9 @@ module _ {k : Numbers} {seeds secret E L hidden entries : List ℕ} where
   pub replies_none : (o : List ℕ) → RepliesBuilt k 0 0 seeds secret E L hidden entries o o
   replies_none o = record { is = λ K given. built_none _ o }
 
-  pub replies_opened : {x at : ℕ} {o₀ o : List ℕ} → RepliesBuilt k x at seeds secret E L hidden entries o₀ o → opened E x ≡ true
-      → RepliesBuilt k (x + 1) at seeds secret E L hidden entries o₀ o
-  replies_opened {x} {at} {o₀} {o} a t =
-      record { is = λ K given. built_more (a.is K given) (puts_none at o) (sym (pick_true (opened E x) [] (reply_at K seeds secret L x (hidden_of E hidden x)) t)) }
+  pub replies_skip : {a at : ℕ} {o₀ o : List ℕ} (b : ℕ) → a ≤ b → ((y : ℕ) → a ≤ y → y < b → opened E y ≡ true)
+      → RepliesBuilt k a at seeds secret E L hidden entries o₀ o → RepliesBuilt k b at seeds secret E L hidden entries o₀ o
+  replies_skip b l h so = record { is = λ K given. built_skip b l (λ y c d. rw (h y c d) refl) (so.is K given) }
 
   pub replies_kept : {x at to y : ℕ} {o₀ o o' : List ℕ} → RepliesBuilt k x at seeds secret E L hidden entries o₀ o → opened E x ≡ false → y ≡ place E x
       → ReplyPuts k x (get_or hidden y 0 - 1) at to seeds secret L entries o o' → RepliesBuilt k (x + 1) to seeds secret E L hidden entries o₀ o'
@@ -96,6 +95,16 @@ module _ (k : Numbers) (D : ℕ) (E hidden : List ℕ) where
         e,
       )
 
+  at_run : (n a at : ℕ) → ((y : ℕ) → a ≤ y → y < a + n → opened E y ≡ true) → at ≡ replies_length k D E hidden a → at ≡ replies_length k D E hidden (a + n)
+  at_run zero a at h e = e ∙ ap (replies_length k D E hidden) (omega arith)
+  at_run (suc n) a at h e =
+      at-opened (a + n) at (at_run n a at (λ y c d. h y c (omega arith)) e) (h (a + n) (omega arith) (omega arith)) ∙ ap (replies_length k D E hidden) (omega arith)
+
+  pub at_skip : (a b at : ℕ) → a ≤ b → ((y : ℕ) → a ≤ y → y < b → opened E y ≡ true) → at ≡ replies_length k D E hidden a → at ≡ replies_length k D E hidden b
+  at_skip a b at l h e =
+      let z : a + (b - a) ≡ b = omega arith in
+      at_run (b - a) a at (λ y c d. h y c (omega (arith, d, z))) e ∙ ap (replies_length k D E hidden) z
+
   pub at-kept : (x at to y : ℕ) → at ≡ replies_length k D E hidden x → opened E x ≡ false → y ≡ place E x → to ≡ at + reply_length k D (get_or hidden y 0 - 1)
       → to ≡ replies_length k D E hidden (x + 1)
   unfolding replies_length hidden_of
@@ -117,6 +126,41 @@ module _ (k : Numbers) (D : ℕ) (E hidden : List ℕ) where
       → at + reply_length k D (get_or hidden y 0 - 1) ≤ w
   room_7 n x at y w h e t p f =
       omega (arith, at-kept x at (at + reply_length k D (get_or hidden y 0 - 1)) y e t p refl, grows (x + 1) n (omega arith), f)
+
+pub place_skip : (E : List ℕ) (a b : ℕ) → a ≤ b → ((y : ℕ) → a ≤ y → y < b → opened E y ≡ true) → place E b ≡ place E a
+unfolding place
+place_skip E a b l h = count_skip a b (λ j. not (opened E j)) l (λ y c d. ap not (h y c d))
+
+-- ---- a turn of the walk over the kept executions
+
+-- The walk, which stood at `from`, comes to execution x: those between are opened, x is kept, and its rank y and its reply's place are those that are counted.
+pub record Turn (k : Numbers) (E hidden : List ℕ) (from x at y : ℕ) : Type 0 where
+  pub passed : (j : ℕ) → from ≤ j → j < x → opened E j ≡ true
+  pub kept : opened E x ≡ false
+  pub rank : y ≡ place E x
+  pub starts : at ≡ replies_length k k.depth E hidden x
+  pub below : x < k.executions
+
+pub turn_of : (k : Numbers) (E hidden : List ℕ) {e : List ℕ} {from end x at y : ℕ} → e ≡ E → end ≡ k.executions → from ≤ x → x < end
+    → ((j : ℕ) → from ≤ j → j < x → not (opened e j) ≡ false) → not (opened e x) ≡ true → y ≡ place E from → at ≡ replies_length k k.depth E hidden from
+    → Turn k E hidden from x at y
+turn_of k E hidden {e} {from} {end} {x} {at} same last first below fails holds rank starts =
+    let passed : (j : ℕ) → from ≤ j → j < x → opened E j ≡ true = λ j a b. was_true _ (rw same at (fails j a b)) in
+    record {
+      passed = passed;
+      kept = was_false _ (rw same at holds);
+      rank = rank ∙ sym (place_skip E from x first passed);
+      starts = at_skip k k.depth E hidden from x at first passed starts;
+      below = omega (arith, below, last);
+    }
+
+-- Then code computes the length of its reply, for which there is room.
+pub turn_7 : (k : Numbers) (E hidden : List ℕ) {from x at y h r w : ℕ} → Turn k E hidden from x at y
+    → h ≡ get_or hidden y 0 → ((K : Key) (P : Parts) (x : ℕ) → Of k K → opened P.p2 x ≡ false → get_or P.p6 (place P.p2 x) 0 ≡ h → r ≡ reply_size K P x)
+    → w ≡ replies_length k k.depth E hidden k.executions → (r ≡ reply_length k k.depth (get_or hidden y 0 - 1)) × (at + r ≤ w)
+turn_7 k E hidden {from} {x} {at} {y} {h} {r} {w} t is f all =
+    let size : r ≡ reply_length k k.depth (get_or hidden y 0 - 1) = size_is k k.deep f ∙ ap (λ x. reply_length k k.depth (x - 1)) is in
+    (size, omega (arith, size, room_7 k k.depth E hidden k.executions x at y w t.below t.starts t.kept t.rank all))
 
 -- ---- the key
 -- the length of the replies
@@ -166,19 +210,3 @@ pub hides_at : {k : Numbers} {E hidden : List ℕ} {x y : ℕ} → Hides k E hid
     → (1 ≤ get_or hidden y 0) × (get_or hidden y 0 ≤ k.parties)
 hides_at {k} {E} {hidden} {x} {y} so h t e =
     subst (λ (j : ℕ). (1 ≤ get_or hidden j 0) × (get_or hidden j 0 ≤ k.parties)) (sym e) (so.at x h t)
-
-pub rows_fit : {k : Numbers} {K : Key} {w : ℕ} (w' : ℕ) → Of k K → entries K ≤ w → w' ≡ w → k.n * (k.m + 1) ≤ w'
-rows_fit {k} {K} {w} w' of h e = rw (e, of.n_is, of.m_is) h
-
--- the length that the transcript's rule gives
-pub count_is : (k : Numbers) (E hidden : List ℕ)
-    → 16 + sum k.executions (reply_size (key_with k []) (parts_with E hidden [])) ≡ 16 + replies_length k k.depth E hidden k.executions
-count_is k E hidden =
-    ap (λ n. 16 + n) (replies_are (key_with k []) E hidden k.executions ∙ long_is k (key_with k []) k.depth E hidden (of_with k []) k.deep k.executions)
-
--- a list that is written in two parts, up to an end
-pub two_parts : (out a b : List ℕ) (mid end : ℕ) → length a ≡ mid → mid ≤ end
-    → take mid (a ++ drop mid out) ++ (b ++ drop (end - mid) (drop mid (a ++ drop mid out))) ≡ (a ++ b) ++ drop end out
-two_parts out a b mid end l h =
-    let z : mid + (end - mid) ≡ end = omega arith in
-    rw (take_at a (drop mid out) mid l, drop_at a (drop mid out) mid l, drop-drop (end - mid) mid out, z) (sym (append_assoc a b (drop end out)))

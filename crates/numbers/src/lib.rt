@@ -13,30 +13,12 @@ pub use modulus::Modulus;
 pub fn is_modulus(q: u32) -> bool
     ensures { result ≡ member q qs }
 {
-    if q == 257 {
-        return true;
-    }
-    if q == 65537 {
-        return true;
-    }
-    q == 2147483647
+    matches!(q, 257 | 65537 | 2147483647)
 }
 
 // Whether n is one of the numbers of parties of a key.
 pub fn is_parties(n: usize) -> bool
     ensures { result ≡ member n Ns }
 {
-    if n == 2 {
-        return true;
-    }
-    if n == 4 {
-        return true;
-    }
-    if n == 8 {
-        return true;
-    }
-    if n == 16 {
-        return true;
-    }
-    n == 32
+    matches!(n, 2 | 4 | 8 | 16 | 32)
 }

@@ -9,7 +9,7 @@ ghost use Rattle.numbers.specs.Residue.{Residue};
 use crate::is_modulus;
 
 // One of the three primes q.
-#[derive(Clone, Copy)]
+#[derive(Clone, Copy, Debug, PartialEq, Eq)]
 pub struct Modulus {
     pub q: u32,
     pub ghost listed: { Member q qs },
@@ -31,13 +31,12 @@ impl Modulus {
     pub fn reduced(self, x: u64) -> u32
         ensures { Residue self.q (x % self.q) result }
     {
-        if self.q == 257 {
-            return (x % 257) as u32;
-        }
-        if self.q == 65537 {
-            return (x % 65537) as u32;
-        }
-        (x % 2147483647) as u32
+        let r = match self.q {
+            257 => x % 257,
+            65537 => x % 65537,
+            _ => x % 2147483647,
+        };
+        r as u32
     }
 
     // a - b modulo q.
@@ -56,14 +55,14 @@ impl Modulus {
     pub fn mul(self, a: u32, b: u32) -> u32
         ensures { Residue self.q ((a * b) % self.q) result }
     {
-        self.reduced(a as u64 * b as u64)
+        self.reduced(u64::from(a) * u64::from(b))
     }
 
     // acc + a * b modulo q: one turn of a sum of products.
     pub fn mul_add(self, acc: u32, a: u32, b: u32) -> u32
         ensures { Residue self.q ((acc + a * b) % self.q) result }
     {
-        self.reduced(acc as u64 + a as u64 * b as u64)
+        self.reduced(u64::from(acc) + u64::from(a) * u64::from(b))
     }
 
     // The inverse of n modulo q.

@@ -10,15 +10,16 @@ use lib.ListN.{length, get_or, take, drop, get_or-append}
 use lib.Seq.{get_or-take, get_or-drop}
 use Rattle.lists.specs.Tab.{tab, tab-length, tab-at, tab_ext, Filling}
 use Rattle.numbers.specs.Mod.{Cong, sub}
-use Rattle.numbers.proofs.Mod.{cong_refl, cong_trans, cong_eq, cong_mod, cong_add, cong_mul, sub_below}
+use Rattle.numbers.proofs.Mod.{cong_trans, cong_eq, cong_mod, sub_below}
 use Rattle.numbers.specs.Sum.{sum}
-use Rattle.numbers.proofs.Sum.{sum_zero, sum_more}
+use Rattle.numbers.proofs.Sum.{sum_zero, sum_more, sum_ext}
+use Rattle.numbers.specs.Inverse.{inverse_of}
 use Rattle.numbers.specs.Output.{weight_of, base_of, term_of}
 use Rattle.numbers.specs.Residue.{Residue}
 use Rattle.streams.specs.Streams.{number}
 use Rattle.execution.specs.Shown.{place_of}
 use Rattle.outputs.specs.Steps.{at, cell, target, first_block, column_at, party_of, shown_of}
-use Rattle.outputs.specs.Stated.{Drawn, Answers, shown_is}
+use Rattle.outputs.specs.Stated.{Drawn, output_at, output_ext, shown_is}
 
 -- ---- a sum x of k numbers below 2^64, kept as the sums lo of their low and hi of their high halves
 pub record Halves (x k lo hi : ℕ) : Type 0 where
@@ -44,25 +45,6 @@ split_next f {i} {x} {lo} {hi} S h e el eh =
             lo_le = let z : lo ≤ i * 4294967295 = (S.halves tt).lo_le in omega arith;
             hi_le = let z : hi ≤ i * 4294967295 = (S.halves tt).hi_le in omega arith;
           };
-    }
-
-pub split_lo : {x k lo hi : ℕ} → Split x k lo hi → k ≤ 128 → lo ≤ 549755813760
-split_lo {k = k} {lo} S h = let z : lo ≤ k * 4294967295 = (S.halves tt).lo_le in omega arith
-
-pub split_hi : {x k lo hi : ℕ} → Split x k lo hi → k ≤ 128 → hi ≤ 549755813760
-split_hi {k = k} {hi = hi} S h = let z : hi ≤ k * 4294967295 = (S.halves tt).hi_le in omega arith
-
--- the high half may be reduced first
-pub split_join : (start lo hi : ℕ) {q h r : ℕ} → Residue q (hi % q) h → Residue q ((start + lo + 4294967296 * h) % q) r
-    → Residue q ((start + (lo + 4294967296 * hi)) % q) r
-split_join start lo hi {q} {h} a b =
-    record {
-      is =
-          b.is
-          ∙ (cong_trans {b = start + lo + 4294967296 * hi}
-          (cong_add cong_refl (cong_mul cong_refl (cong_trans (cong_eq a.is) (cong_mod q hi))))
-          (cong_eq (omega arith))).same;
-      below = b.below;
     }
 
 -- the residue of the whole sum
@@ -107,20 +89,32 @@ unfolding shown_of
 shown_open q m hid given base ws gs al work i n e = rw (ne_eqb i hid n) e
 
 -- ---- an execution with its coefficients cs, weights ws and base
-pub answers : (n : ℕ) (entries : List ℕ) {q m N z base hid given : ℕ} {cs ws al work : List ℕ} (xs ys : List ℕ) → 0 < q → n + m ≤ length cs
-    → Residue q (base_of q N n (at cs) (target n m entries)) base → Filling z ws m (weight_of q n (at cs) (cell m entries))
-    → ys ≡ tab N (shown_of q m hid given base ws (take (length cs - n) (drop n cs)) al work)
-    → Answers q n m N hid given cs entries al work xs (ys ++ drop N xs)
-answers n entries {q} {m} {N} {hid = hid} {given} {cs} {al = al} {work} xs ys p long hb hw e =
-    record {
-      are =
-          λ L x D.
-          ap (λ l. l ++ drop N xs)
-          (e ∙ tab_ext N _ _ (λ i h. shown_is hid given al work p D (take (length cs - n) (drop n cs)) at_place (record { start = hb.is; weight = hw.filled }) i));
-    }
-  where
-    at_place : (k : ℕ) → k < m → get_or (take (length cs - n) (drop n cs)) k 0 ≡ get_or cs (n + k) 0
-    at_place k h = get_or-take (length cs - n) (drop n cs) k 0 (omega arith) ∙ get_or-drop n cs k 0
+-- the first n coefficients count
+base_front : (q N n : ℕ) (cs : List ℕ) (t : ℕ → ℕ) → base_of q N n (at (take n cs)) t ≡ base_of q N n (at cs) t
+unfolding base_of
+base_front q N n cs t = ap (λ x. x % q) (sum_ext n (λ l h. ap (λ x. x * (t l * inverse_of q N)) (get_or-take n cs l 0 h)))
+
+weight_front : (q n : ℕ) (cs : List ℕ) (A : ℕ → ℕ → ℕ) (k : ℕ) → weight_of q n (at (take n cs)) A k ≡ weight_of q n (at cs) A k
+unfolding weight_of
+weight_front q n cs A k = ap (λ x. sub q 0 x) (sum_ext n (λ l h. ap (λ x. x * A l k) (get_or-take n cs l 0 h)))
+
+-- the others stand from place n on
+gamma_at : (n m : ℕ) (cs : List ℕ) → length cs ≡ n + m → (k : ℕ) → k < m → get_or (take (length cs - n) (drop n cs)) k 0 ≡ get_or cs (n + k) 0
+gamma_at n m cs long k h = get_or-take (length cs - n) (drop n cs) k 0 (omega arith) ∙ get_or-drop n cs k 0
+
+pub answers : (n N hid given : ℕ) (entries work : List ℕ) {q m e base : ℕ} {L cs ws : List ℕ} (al xs ys : List ℕ) → 0 < q → length cs ≡ n + m → m ≤ length al
+    → Drawn q n m e L cs → Residue q (base_of q N n (at (take n cs)) (target n m entries)) base
+    → Filling m ws m (weight_of q n (at (take n cs)) (cell m entries))
+    → ys ≡ tab N (shown_of q m hid given base ws (take (length cs - n) (drop n cs)) (take m al) work)
+    → ys ++ drop N xs ≡ tab N (output_at q n m N hid e given L entries al work) ++ drop N xs
+answers n N hid given entries work {q} {m} {e} {L = L} {cs} al xs ys p long few D hb hw is =
+    ap (λ l. l ++ drop N xs)
+    (is
+    ∙ tab_ext N _ _
+    (λ i h.
+    shown_is hid given (take m al) work p D (take (length cs - n) (drop n cs)) (gamma_at n m cs long)
+    (record { start = hb.is ∙ base_front q N n cs (target n m entries); weight = λ k y. hw.filled k y ∙ weight_front q n cs (cell m entries) k }) i
+    ∙ output_ext q n m N hid e given L entries (take m al) al work (λ k y. get_or-take m al k 0 y) i))
 
 -- ---- coefficients that were drawn to the front of a list
 pub drawn_at : {cs : List ℕ} (q n m e : ℕ) (L zs : List ℕ) → cs ≡ tab (n + m) (number q L (first_block n m e)) ++ zs → Drawn q n m e L cs

@@ -1,26 +1,27 @@
 // The outputs of the parties, from the weights of the columns.
 
-ghost use Rattle.std.specs.Prelude.{◌≡◌, ◌+◌, ◌*◌, ◌<◌, ◌≤◌, length};
+ghost use Rattle.std.specs.Prelude.{◌≡◌, ◌+◌, ◌*◌, ◌<◌, length};
 ghost use Rattle.lists.specs.Tab.{tab};
 ghost use Rattle.numbers.specs.Output.{term_of};
 ghost use Rattle.outputs.specs.Steps.{party_of, shown_of};
 
 use crate::Halves;
-use execution::OpenShares;
+use execution::{OpenShares, fill};
 use numbers::Modulus;
 
-// What the outputs are computed from: the shares and the hidden party's output, a base, and each column's weight, γ and α.
+// What the outputs are computed from: the shares and the hidden party's output, a base, and each column's weight, γ and α. Nothing compares
+// or prints it.
 #[derive(Clone, Copy)]
 pub struct Columns<'a, 'w> {
     pub shares: OpenShares<'a>,
     pub given: u32,
     pub base: u32,
     pub weights: &'w [u32],
-    pub gammas: &'a [u32],
-    pub alphas: &'a [u32],
-    pub ghost weights_long: { shares.m ≤ length weights.now },
-    pub ghost gammas_long: { shares.m ≤ length gammas.now },
-    pub ghost alphas_long: { shares.m ≤ length alphas.now },
+    pub gammas: &'w [u32],
+    pub alphas: &'w [u32],
+    pub ghost weights_long: { length weights.now ≡ shares.m },
+    pub ghost gammas_long: { length gammas.now ≡ shares.m },
+    pub ghost alphas_long: { length alphas.now ≡ shares.m },
 }
 
 // One column of a party's output: w s + γ (α (s + b) + d - s), where what γ multiplies is reduced.
@@ -37,7 +38,7 @@ fn term(modulus: Modulus, w: u32, g: u32, a: u32, s: u32, b: u32, d: u32) -> u64
 }
 
 impl Columns<'_, '_> {
-    // The output of a party that is open.
+    // The output of a party that is open. Six lists go in step: a zip of them all would be longer than their places.
     fn open_output(self, i: usize) -> u32
         requires i_lt_parties { i < self.shares.parties }
         requires open { i ≡ self.shares.hidden → ⊥ }
@@ -79,8 +80,6 @@ impl Columns<'_, '_> {
         requires { length out.old ≡ self.shares.parties }
         ensures { out.new ≡ tab self.entry.shares.parties (shown_of self.entry.shares.modulus.q self.entry.shares.m self.entry.shares.hidden self.entry.given self.entry.base self.entry.weights.now self.entry.gammas.now self.entry.alphas.now self.entry.shares.work.now) }
     {
-        for (i, o) in out.iter_mut().enumerate() {
-            *o = self.output(i);
-        }
+        fill(out, |i| self.output(i));
     }
 }

@@ -6,7 +6,7 @@ ghost use Rattle.numbers.specs.Residue.{Residue};
 use numbers::Modulus;
 
 // The sums of the products' low and high halves.
-#[derive(Clone, Copy)]
+#[derive(Clone, Copy, Debug, PartialEq, Eq)]
 pub struct Halves {
     pub lo: u64,
     pub hi: u64,

@@ -7,17 +7,18 @@ ghost use Rattle.numbers.specs.Output.{weight_of, base_of};
 ghost use Rattle.numbers.specs.Residue.{Residue};
 ghost use Rattle.streams.specs.Streams.{number};
 ghost use Rattle.outputs.specs.Steps.{at, cell, target, first_block};
-ghost use Rattle.outputs.specs.Stated.{output_at, Answers};
+ghost use Rattle.outputs.specs.Stated.{output_at};
 
 mod columns;
 mod halves;
 
 use columns::Columns;
-use execution::{Evaluation, OpenShares};
+use execution::{Evaluation, OpenShares, fill};
 use halves::Halves;
 use numbers::Modulus;
 
-// The n + m coefficients of an execution, from the verifier's seed.
+// The n + m coefficients of an execution, from the verifier's seed. Here and below a list may be longer than what is put in front of it: an
+// exact length would ask more of callers.
 pub fn coefficients(
     modulus: Modulus,
     n: usize,
@@ -38,81 +39,47 @@ pub fn coefficients(
 }
 
 // Minus the sum over l of β(l) A(l, k).
-fn weight(evaluation: Evaluation, k: usize, coefficients: &[u32]) -> u32
+fn weight(evaluation: Evaluation, k: usize, betas: &[u32]) -> u32
     requires k_lt_m { k < evaluation.m }
-    requires coefficients_long { evaluation.n ≤ length coefficients.now }
-    ensures { Residue evaluation.entry.modulus.q (weight_of evaluation.entry.modulus.q evaluation.entry.n (at coefficients.now) (cell evaluation.entry.m evaluation.entry.entries.now) k) result }
+    requires betas_long { length betas.now ≡ evaluation.n }
+    ensures { Residue evaluation.entry.modulus.q (weight_of evaluation.entry.modulus.q evaluation.entry.n (at betas.now) (cell evaluation.entry.m evaluation.entry.entries.now) k) result }
 {
     let mut sum = Halves { lo: 0, hi: 0 };
-    for l in 0..evaluation.n {
+    for (l, &beta) in betas.iter().enumerate() {
         let a = evaluation.entries[l * evaluation.m + k];
-        sum.add(u64::from(coefficients[l]) * u64::from(a));
+        sum.add(u64::from(beta) * u64::from(a));
     }
     let total = sum.joined(evaluation.modulus, 0);
     evaluation.modulus.sub(0, total)
 }
 
-// The weight of each column, to the first m places.
-fn weights(evaluation: Evaluation, coefficients: &[u32], out: &mut [u32])
-    requires coefficients_long { evaluation.n ≤ length coefficients.now }
-    requires out_long { evaluation.m ≤ length out.old }
-    ensures { Filling (length out.old) out.new evaluation.entry.m (weight_of evaluation.entry.modulus.q evaluation.entry.n (at coefficients.now) (cell evaluation.entry.m evaluation.entry.entries.now)) }
+// The weight of each column.
+fn weights(evaluation: Evaluation, betas: &[u32], out: &mut [u32])
+    requires betas_long { length betas.now ≡ evaluation.n }
+    requires out_long { length out.old ≡ evaluation.m }
+    ensures { Filling evaluation.entry.m out.new evaluation.entry.m (weight_of evaluation.entry.modulus.q evaluation.entry.n (at betas.now) (cell evaluation.entry.m evaluation.entry.entries.now)) }
 {
-    for k in 0..evaluation.m {
-        out[k] = weight(evaluation, k, coefficients);
-    }
+    fill(out, |k| weight(evaluation, k, betas));
 }
 
 // The sum over l of β(l) t(l)/N.
-fn base(evaluation: Evaluation, coefficients: &[u32]) -> u32
-    requires { evaluation.n ≤ length coefficients.now }
-    ensures { Residue evaluation.entry.modulus.q (base_of evaluation.entry.modulus.q evaluation.entry.parties evaluation.entry.n (at coefficients.now) (target evaluation.entry.n evaluation.entry.m evaluation.entry.entries.now)) result }
+fn base(evaluation: Evaluation, betas: &[u32]) -> u32
+    requires { length betas.now ≡ evaluation.n }
+    ensures { Residue evaluation.entry.modulus.q (base_of evaluation.entry.modulus.q evaluation.entry.parties evaluation.entry.n (at betas.now) (target evaluation.entry.n evaluation.entry.m evaluation.entry.entries.now)) result }
 {
     let modulus = evaluation.modulus;
     let first = evaluation.n * evaluation.m;
     let inverse = modulus.inverse_of(evaluation.parties as u32);
     let mut acc: u32 = 0;
-    for l in 0..evaluation.n {
+    for (l, &beta) in betas.iter().enumerate() {
         let t = modulus.mul(evaluation.entries[first + l], inverse);
-        acc = modulus.mul_add(acc, coefficients[l], t);
+        acc = modulus.mul_add(acc, beta, t);
     }
     acc
 }
 
-// The outputs of an execution whose coefficients are cs.
-fn outputs_from<'a>(
-    evaluation: Evaluation<'a>,
-    given: u32,
-    cs: &'a [u32],
-    alphas: &'a [u32],
-    out: &mut [u32],
-)
-    requires coefficients_long { evaluation.n + evaluation.m ≤ length cs.now }
-    requires alphas_long { evaluation.m ≤ length alphas.now }
-    requires out_long { evaluation.parties ≤ length out.old }
-    ensures { Answers evaluation.entry.modulus.q evaluation.entry.n evaluation.entry.m evaluation.entry.parties evaluation.entry.hidden given cs.now evaluation.entry.entries.now alphas.now evaluation.entry.work.now out.old out.new }
-{
-    let mut ws = [0u32; 128];
-    weights(evaluation, cs, &mut ws);
-    let shares = OpenShares {
-        modulus: evaluation.modulus,
-        m: evaluation.m,
-        parties: evaluation.parties,
-        hidden: evaluation.hidden,
-        work: evaluation.work,
-    };
-    let columns = Columns {
-        shares,
-        given,
-        base: base(evaluation, cs),
-        weights: &ws,
-        gammas: &cs[evaluation.n..],
-        alphas,
-    };
-    columns.outputs(&mut out[..evaluation.parties]);
-}
-
-// Document 01, Shares and messages: o(1) .. o(N) of an execution. The hidden party's o is given.
+// Document 01, Shares and messages: o(1) .. o(N) of an execution. The hidden party's o is given, and counts for nothing where nobody is
+// hidden. The coefficients and weights stand in lists of fixed size, as there is no heap.
 pub fn outputs(
     evaluation: Evaluation,
     execution: usize,
@@ -126,14 +93,35 @@ pub fn outputs(
     requires out_long { evaluation.parties ≤ length out.old }
     ensures { out.new ≡ tab evaluation.entry.parties (output_at evaluation.entry.modulus.q evaluation.entry.n evaluation.entry.m evaluation.entry.parties evaluation.entry.hidden execution given seed.now evaluation.entry.entries.now alphas.now evaluation.entry.work.now) ++ drop evaluation.entry.parties out.old }
 {
-    let mut cs = [0u32; 160];
-    coefficients(
-        evaluation.modulus,
-        evaluation.n,
-        evaluation.m,
-        execution,
-        seed,
-        &mut cs,
-    );
-    outputs_from(evaluation, given, &cs, alphas, out);
+    let Evaluation {
+        modulus,
+        n,
+        m,
+        parties,
+        hidden,
+        work,
+        ..
+    } = evaluation;
+    let mut cs = [0; 160];
+    let cs = &mut cs[..n + m];
+    coefficients(modulus, n, m, execution, seed, cs);
+    let betas = &cs[..n];
+    let mut ws = [0; 128];
+    let ws = &mut ws[..m];
+    weights(evaluation, betas, ws);
+    let columns = Columns {
+        shares: OpenShares {
+            modulus,
+            m,
+            parties,
+            hidden,
+            work,
+        },
+        given,
+        base: base(evaluation, betas),
+        weights: ws,
+        gammas: &cs[n..],
+        alphas: &alphas[..m],
+    };
+    columns.outputs(&mut out[..parties]);
 }

@@ -1,27 +1,27 @@
 // Where two transcripts fork, and whether the lent lists are long enough.
 
-ghost use Rattle.std.specs.Prelude.{◌≡◌};
+ghost use Rattle.std.specs.Prelude.{◌≡◌, ◌+◌, ◌*◌, ◌≤◌, true};
 ghost use Rattle.protocol.specs.Key.{Key};
-ghost use Rattle.protocol.specs.Transcript.{parts_of};
 ghost use Rattle.protocol.specs.Pair.{enough};
-ghost use Rattle.key.specs.Numbers.{Of};
-ghost use Rattle.fork.specs.Fork.{Headed};
-ghost use Rattle.pair.specs.Forks.{Located};
+ghost use Rattle.key.specs.Numbers.{Of, key_with};
+ghost use Rattle.side.specs.Side.{Sound};
+ghost use Rattle.pair.specs.Forks.{Forks, Located};
 ghost use Rattle.pair.specs.Lent.{lengths};
 
-use key::Numbers;
+use key::{Numbers, ReadKey};
 use transcript::split;
 
-// The execution that the reader works on, counted from 0, and the party that each transcript hides in it.
-#[derive(Clone, Copy)]
+// The execution that the reader works on, counted from 0, and the party that each transcript hides in it. The two transcripts are the C
+// call's.
+#[derive(Clone, Copy, Debug, PartialEq, Eq)]
 pub struct Place {
     pub execution: usize,
     pub hidden1: usize,
     pub hidden2: usize,
 }
 
-// How long the lists are that are lent to a call.
-#[derive(Clone, Copy)]
+// How long the lists are that are lent to a call. The lists themselves are lent on once they are long enough.
+#[derive(Clone, Copy, Debug, PartialEq, Eq)]
 pub struct Lent {
     pub hash1: usize,
     pub hash2: usize,
@@ -31,16 +31,17 @@ pub struct Lent {
     pub work: usize,
 }
 
-// The place of two files whose headers are good and whose parts 2 are equal.
-pub fn locate(k: Numbers, run1: &[u8], run2: &[u8]) -> Place
-    requires headed { Headed k run1.now }
-    requires headed_2 { Headed k run2.now }
-    requires run1_value { (parts_of run1.now).p2 ≡ (parts_of run2.now).p2 }
-    ensures { (K : Key) → Of k K → Located K run1.now run2.now result.execution result.hidden1 result.hidden2 }
+// The place of two transcripts that fork.
+pub fn locate(key: ReadKey, run1: &[u8], run2: &[u8]) -> Place
+    requires { Forks (key_with key.numbers key.entries.now) run1.now run2.now }
+    ensures located { Located (key_with key.entry.numbers key.entry.entries.now) run1.now run2.now result.execution result.hidden1 result.hidden2 }
+    ensures sound { Sound key.entry.numbers key.entry.entries.now run1.now result.execution result.hidden1 }
+    ensures sound_2 { Sound key.entry.numbers key.entry.entries.now run2.now result.execution result.hidden2 }
+    ensures hidden_differ { result.hidden1 ≡ result.hidden2 → ⊥ }
 {
-    let one = split(k, run1);
-    let two = split(k, run2);
-    let execution = fork::execution_of(k, one.p2, one.p6, two.p6);
+    let one = split(key.numbers, run1);
+    let two = split(key.numbers, run2);
+    let execution = fork::execution_of(key.numbers, one.p2, one.p6, two.p6).unwrap();
     Place {
         execution,
         hidden1: fork::hidden_of(one.p2, one.p6, execution),
@@ -48,25 +49,21 @@ pub fn locate(k: Numbers, run1: &[u8], run2: &[u8]) -> Place
     }
 }
 
-// Every lent list is as long as document 01 asks.
-#[tactic(auto, using(crate::proofs::Room::hash2_short, crate::proofs::Room::all_but_uv))]
+// Every lent list is as long as document 01 asks. The other calls lend other lists, so each has a test of its own.
+#[tactic(auto, unfolding(protocol::specs::Pair::enough, lists::specs::Index::holds))]
 pub fn room(k: Numbers, lent: Lent) -> bool
-    ensures { (K : Key) → Of k K → result ≡ enough K (lengths lent.hash1 lent.hash2 lent.secret lent.uv lent.entries lent.work) }
+    ensures value { (K : Key) → Of k K → result ≡ enough K (lengths lent.hash1 lent.hash2 lent.secret lent.uv lent.entries lent.work) }
+    ensures hash1_long { result ≡ true → 16400 ≤ lent.hash1 }
+    ensures hash2_long { result ≡ true → 16400 ≤ lent.hash2 }
+    ensures secret_long { result ≡ true → k.m ≤ lent.secret }
+    ensures uv_long { result ≡ true → k.n + k.m ≤ lent.uv }
+    ensures entries_long { result ≡ true → k.n * (k.m + 1) ≤ lent.entries }
+    ensures work_long { result ≡ true → 4 * k.m * k.parties ≤ lent.work }
 {
-    if 4 * k.m * k.parties > lent.work {
-        return false;
-    }
-    if k.n * (k.m + 1) > lent.entries {
-        return false;
-    }
-    if 16400 > lent.hash1 {
-        return false;
-    }
-    if 16400 > lent.hash2 {
-        return false;
-    }
-    if k.m > lent.secret {
-        return false;
-    }
-    k.n + k.m <= lent.uv
+    4 * k.m * k.parties <= lent.work
+        && k.n * (k.m + 1) <= lent.entries
+        && 16400 <= lent.hash1
+        && 16400 <= lent.hash2
+        && k.m <= lent.secret
+        && k.n + k.m <= lent.uv
 }

@@ -1,4 +1,5 @@
-// The execution in which two accepted transcripts fork, opened in both.
+// The execution in which two accepted transcripts fork, opened in both. One list of inputs is filled for each transcript; why each list is
+// a parameter of its own stands at `reader`.
 
 ghost use Rattle.std.specs.Prelude.{◌≡◌, ◌*◌, ◌≤◌, length};
 ghost use Rattle.protocol.specs.Transcript.{parts_of};
@@ -11,7 +12,8 @@ use crate::place::Place;
 use execution::Sharing;
 use key::ReadKey;
 
-// The hash inputs of the execution in both transcripts, and its joined values.
+// The hash inputs of the execution in both transcripts, and its joined values. Each list is a parameter: of a `&mut` struct of `&mut`
+// slices a caller would not know what was written.
 pub fn open_both(
     key: ReadKey,
     place: Place,

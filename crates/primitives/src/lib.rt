@@ -1,5 +1,5 @@
-// SHA-256, AES-128 and the streams of a seed as C functions: what the tests and the benchmark call. None has a
-// `requires`; the caller owes what premise P5 of docs/CLAIMS.md says.
+// SHA-256, AES-128 and the streams of a seed as C functions: what the tests and the benchmark call. Each is one function for C, under its
+// own name. None has a `requires`; the caller owes what premise P5 of docs/CLAIMS.md says.
 #![tactic(auto)]
 
 ghost use Rattle.std.specs.Prelude.{◌≡◌, length};
@@ -48,7 +48,8 @@ const MOST: usize = 4294967295;
 const LAST: u64 = 4611686018427387903;
 
 // Numbers of a 16-byte seed from block `first` on, as many as out has places: 0; or 2 where q is no modulus of a key, 6 where the seed has
-// another length, 11 where out has 2^32 places or more or `first` is 2^62 or more, and out is untouched then.
+// another length, 11 where out has 2^32 places or more or `first` is 2^62 or more, and out is untouched then. The numbers are document
+// 01's, written out: this crate needs no refusals.
 #[tactic(auto, using(crate::proofs::Laws::answer_q, crate::proofs::Laws::answer_seed, crate::proofs::Laws::answer_long, crate::proofs::Laws::answer_far, crate::proofs::Laws::answer_fine))]
 #[unsafe(no_mangle)]
 pub extern "C" fn badge_numbers(seed: &[u8], first: u64, q: u32, out: &mut [u32]) -> u32

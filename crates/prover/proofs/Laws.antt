@@ -3,29 +3,26 @@
 use Prim.Native.Nat.{ℕ, ◌+◌, ◌*◌, ◌-◌, ◌<◌, ◌≤◌}
 use mathlib.Core.Path.{◌≡◌, refl, sym, ◌∙◌, ap, ap₂}
 use mathlib.Core.Bool.{Bool, true, false, not}
-use mathlib.Core.List.{List, [], ◌∷◌, ◌++◌}
-use native.Mathlib.Numerals.{add-one}
+use mathlib.Core.List.{List, [], ◌∷◌, ◌++◌, append_assoc}
 use native.Mathlib.Omega.{arith}
 use lib.Dec.{eqb}
 use lib.ListN.{length, get_or, take, drop}
-use lib.Seq.{take_all}
+use lib.Seq.{drop-drop}
 use borrow.Author.Tests.{eq-eqb, ne_eqb, le-leb, lt-leb, leb-true, eqb-true, not-false}
-use Rattle.lists.specs.Written.{Puts, puts_none, puts_some, tail_written}
 use Rattle.lists.specs.Index.{holds, pick, count}
-use Rattle.lists.specs.CatLaws.{part_length}
 use Rattle.lists.specs.Check.{Check, ◌⇒◌, Verdict, accepted, refused, first}
-use Rattle.lists.specs.TestLaws.{first_stops, first_more, Clean, clean, cleared, clean-left, clean-right, holds-each, count_suc, count_below, count_mono}
+use Rattle.lists.specs.TestLaws.{first_stops, first_more, Clean, clean, cleared, clean-left, clean-right, holds-each, count_below}
 use Rattle.numbers.specs.Sum.{sum}
 use Rattle.protocol.specs.Key.{Key, entries, key_of, key_checks}
-use Rattle.protocol.specs.Prover.{message1, message3, message5, message7, checks1, checks3, checks5, checks7, statement_checks, good_e, good_hidden, binary, solves, sized, opened, lent_checks, verdict1, verdict3, verdict5, verdict7, output}
+use Rattle.protocol.specs.Prover.{message3, message7, checks1, checks3, checks5, checks7, statement_checks, good_e, good_hidden, binary, solves, sized, opened, lent_checks, verdict3, verdict7, output}
 use Rattle.protocol.specs.Judge.{hidden, given_count, reply_size}
-use Rattle.protocol.proofs.Sizes.{message1-length, message3_length, message5_length, message7_length, reply_bytes, replies_bytes}
+use Rattle.protocol.proofs.Sizes.{message7_length, reply_bytes, replies_bytes}
 use Rattle.protocol.proofs.Opened.{opened-count, kept-count}
 use Rattle.execution.specs.Shown.{Sized}
 use Rattle.key.specs.Numbers.{Of, key_with}
 use Rattle.key.specs.declared.sizes.Numbers.{Numbers}
 use Rattle.transcript.specs.Replies.{parts_with, length-of}
-use Rattle.prover.specs.Answers.{Length, Refused, answer_of}
+use Rattle.prover.specs.Answers.{Length, Refused, answer_of, verdict}
 use Rattle.prover.specs.Parts.{SizedInputs, Inputs}
 
 -- ---- refusals
@@ -115,13 +112,6 @@ passed K key b message size from work entry e =
       room = room K message size from work entry (clean-right (key_checks K key ++ b) (lent_checks K message size from work entry) c);
     }
 
--- What stands in an output that was lent from a place on to a writer, who put the message to the front of what was lent and left the rest:
--- the bytes before the place and after the message are as they were.
-pub written : (v : Verdict) (message ys out : List ℕ) (from n : ℕ) → v ≡ accepted → length message ≡ n
-    → ys ≡ message ++ drop n (take (length out - from) (drop from out)) → take from out ++ (ys ++ drop (length out - from) (drop from out)) ≡ output v message from out
-unfolding output
-written v message ys out from n e long y = rw (e, long) (tail_written message ys out from n y)
-
 pub untouched : (v : Verdict) (message out : List ℕ) (from n : ℕ) → v ≡ refused n → out ≡ output v message from out
 unfolding output
 untouched v message out from n e = rw e
@@ -135,21 +125,6 @@ answer_refused v message n e = rw e
 pub refuses : (v : Verdict) (message out : List ℕ) (from : ℕ) {n : ℕ} → refused n ≡ v → (Refused n ≡ answer_of v message) × (out ≡ output v message from out)
 refuses v message out from {n} e = (answer_refused v message n (sym e), untouched v message out from n (sym e))
 
-pub writes : (v : Verdict) (message ys out : List ℕ) (from n : ℕ) → v ≡ accepted → length message ≡ n → ys ≡ message ++ drop n (take (length out - from) (drop from out))
-    → (Length n ≡ answer_of v message) × (take from out ++ (ys ++ drop (length out - from) (drop from out)) ≡ output v message from out)
-writes v message ys out from n e long y = (answer-length v message n e long, written v message ys out from n e long y)
-
--- the tail has room for the message
-pub tail-room : {K : Key} {message : List ℕ} {from work entry : ℕ} (out : List ℕ) → Room K message (length out) from work entry
-    → length message ≤ length (take (length out - from) (drop from out))
-tail-room {from = from} out r =
-    let place : from ≤ length out = r.place in
-    omega (arith, r.long, part_length out from (length out - from) (omega arith))
-
--- where they are the message, it is
-pub put_whole : (message src rest ys : List ℕ) (n : ℕ) → length message ≡ n → src ≡ message → ys ≡ take n src ++ rest → ys ≡ message ++ rest
-put_whole message src rest ys n long e y = y ∙ rw (e, take_all n message (omega (arith, long))) refl
-
 -- the numbers of a key that was read
 pub sized_of : {k : Numbers} {K : Key} → Of k K → Sized k.modulus.q k.m k.parties K
 sized_of of = record { modulus = sym of.q_is; columns = sym of.m_is; parties = sym of.parties_is }
@@ -157,52 +132,13 @@ sized_of of = record { modulus = sym of.q_is; columns = sym of.m_is; parties = s
 pub three_of_four : (m N a b w : ℕ) → a ≡ m → b ≡ N → 4 * m * N ≤ w → 3 * a * b ≤ w
 three_of_four m N a b w e f h = rw (e, f) (omega arith)
 
+pub rows_of : {k : Numbers} {K : Key} {x : ℕ} → Of k K → entries K ≤ x → k.n * (k.m + 1) ≤ x
+rows_of of h = rw (of.n_is, of.m_is) h
+
 -- ---- message 1
-module _ (key seeds : List ℕ) (size from work entry : ℕ) where
-  pub refusal1_key : {n : ℕ} → refused n ≡ first (key_checks (key_of key) key) → refused n ≡ verdict1 key seeds size from work entry
-  unfolding verdict1
-  refusal1_key = key_refused (key_checks (key_of key) key) (checks1 (key_of key) seeds) (lent_checks (key_of key) (message1 (key_of key) seeds) size from work entry)
-
-  pub refusal1_inputs : {n : ℕ} → first (key_checks (key_of key) key) ≡ accepted → refused n ≡ first (checks1 (key_of key) seeds)
-      → refused n ≡ verdict1 key seeds size from work entry
-  unfolding verdict1
-  refusal1_inputs = input_refused (key_checks (key_of key) key) (checks1 (key_of key) seeds) (lent_checks (key_of key) (message1 (key_of key) seeds) size from work entry)
-
-  pub refusal1_lent : {v : Verdict} → first (key_checks (key_of key) key) ≡ accepted → first (checks1 (key_of key) seeds) ≡ accepted
-      → v ≡ first (lent_checks (key_of key) (message1 (key_of key) seeds) size from work entry) → v ≡ verdict1 key seeds size from work entry
-  unfolding verdict1
-  refusal1_lent = lent_refused (key_checks (key_of key) key) (checks1 (key_of key) seeds) (lent_checks (key_of key) (message1 (key_of key) seeds) size from work entry)
-
-  pub passed1 : verdict1 key seeds size from work entry ≡ accepted → Passed (key_of key) key (checks1 (key_of key) seeds) (message1 (key_of key) seeds) size from work entry
-  unfolding verdict1
-  passed1 = passed (key_of key) key (checks1 (key_of key) seeds) (message1 (key_of key) seeds) size from work entry
-
 pub seeds_long : (K : Key) (seeds : List ℕ) → Clean (checks1 K seeds) → length seeds ≡ 16 * K.M
 unfolding checks1
 seeds_long K seeds c = eqb-true (length seeds) (16 * K.M) (not-false _ c.0)
-
--- what the writer of message 1 is told
-pub record Ready1 (key seeds out : List ℕ) (from work entry : ℕ) : Type 0 where
-  pub passes : verdict1 key seeds (length out) from work entry ≡ accepted
-  pub of_key : first (key_checks (key_of key) key) ≡ accepted
-  pub seeds_long : length seeds ≡ 16 * (key_of key).M
-  pub shares : 4 * (key_of key).m * (key_of key).N ≤ work
-  pub long : length (message1 (key_of key) seeds) ≡ 32
-  pub ends : from + 32 ≤ length out
-
-pub ready1 : (key seeds out : List ℕ) (from work entry : ℕ) → verdict1 key seeds (length out) from work entry ≡ accepted
-    → Ready1 key seeds out from work entry
-ready1 key seeds out from work entry a =
-    let p = passed1 key seeds (length out) from work entry a in
-    let l = message1-length (key_of key) seeds in
-    record {
-      passes = a;
-      of_key = p.of_key;
-      seeds_long = seeds_long (key_of key) seeds p.inputs;
-      shares = p.room.shares;
-      long = l;
-      ends = omega (arith, p.room.long, l);
-    }
 
 -- ---- messages 3 and 5: the inputs
 module _ {m M : ℕ} {seeds secret κ : List ℕ} where
@@ -280,43 +216,14 @@ module _ (K : Key) (seeds secret E κ : List ℕ) where
   pub secret_long : holds lengths3 ≡ true → length secret ≡ K.m
   secret_long h = eqb-true (length secret) K.m (holds-each lengths3 h).1.0
 
--- ---- writing
--- an item that is put where a test holds, or where it fails
-pub put-none : (t : Bool) (ys l : List ℕ) (at : ℕ) → t ≡ false → (Puts at at (pick t ys []) l l) × (at ≡ at + pick t 16 0)
-put-none t ys l at e = rw e (puts_none at l, omega arith)
-
-pub put_some : (t : Bool) (ys zs l : List ℕ) (at : ℕ) → t ≡ true → zs ≡ ys → length ys ≡ 16
-    → (Puts at (at + 16) (pick t ys []) l (take at l ++ (zs ++ drop (at + 16 - at) (drop at l)))) × (at + 16 ≡ at + pick t 16 0)
-put_some t ys zs l at e z h = rw (e, z) (puts_some at 16 ys l h, refl)
-
-pub count_16 : (x a b : ℕ) (p : ℕ → Bool) → a ≡ 16 * count x p → b ≡ a + pick (p x) 16 0 → b ≡ 16 * count (x + 1) p
-count_16 x a b p e h = rw (add-one x, count_suc x p) (go (p x) h)
-  where
-    go : (t : Bool) → b ≡ a + pick t 16 0 → b ≡ 16 * (count x p + pick t 1 0)
-    go true y = omega arith
-    go false y = omega arith
-
-pub count_32 : (x a b : ℕ) (p : ℕ → Bool) → a ≡ 32 * count x (λ j. not (p j)) → b ≡ a + pick (p x) 0 32 → b ≡ 32 * count (x + 1) (λ j. not (p j))
-count_32 x a b p e h = rw (add-one x, count_suc x (λ j. not (p j))) (go (p x) h)
-  where
-    go : (t : Bool) → b ≡ a + pick t 0 32 → b ≡ 32 * (count x (λ j. not (p j)) + pick (not t) 1 0)
-    go true y = omega arith
-    go false y = omega arith
-
 -- room for one more
 pub room_16 : (n x a w : ℕ) (p : ℕ → Bool) → x < n → a ≡ 16 * count x p → w ≡ 16 * count n p → p x ≡ true → a + 16 ≤ w
 room_16 n x a w p h e f t = omega (arith, count_below n p x h t)
 
-pub within_16 : (n x a w : ℕ) (p : ℕ → Bool) → x ≤ n → a ≡ 16 * count x p → w ≡ 16 * count n p → a ≤ w
-within_16 n x a w p h e f = omega (arith, count_mono p x n h)
-
 pub room_32 : (n x a w : ℕ) (p : ℕ → Bool) → x < n → a ≡ 32 * count x (λ j. not (p j)) → w ≡ 32 * count n (λ j. not (p j)) → p x ≡ false → a + 32 ≤ w
 room_32 n x a w p h e f t = omega (arith, count_below n (λ j. not (p j)) x h (ap not t))
 
-pub within_32 : (n x a w : ℕ) (p : ℕ → Bool) → x ≤ n → a ≡ 32 * count x (λ j. not (p j)) → w ≡ 32 * count n (λ j. not (p j)) → a ≤ w
-within_32 n x a w p h e f = omega (arith, count_mono (λ j. not (p j)) x n h)
-
--- ---- messages 3 and 5: the verdicts
+-- ---- what inputs that were not refused are
 pub inputs_of3 : (K : Key) (seeds secret E κ : List ℕ) → Clean (checks3 K seeds secret E κ) → Inputs K seeds secret E κ
 unfolding checks3 statement_checks
 inputs_of3 K seeds secret E κ c =
@@ -329,28 +236,6 @@ inputs_of3 K seeds secret E κ c =
     }
 
 module _ (key seeds secret E κ : List ℕ) (size from work entry : ℕ) where
-  abbrev lent3 : List Check
-  lent3 = lent_checks (key_of key) (message3 (key_of key) seeds secret E κ) size from work entry
-
-  pub refusal3_key : {n : ℕ} → refused n ≡ first (key_checks (key_of key) key) → refused n ≡ verdict3 key seeds secret E κ size from work entry
-  unfolding verdict3
-  refusal3_key = key_refused (key_checks (key_of key) key) (checks3 (key_of key) seeds secret E κ) lent3
-
-  pub refusal3_inputs : {n : ℕ} → first (key_checks (key_of key) key) ≡ accepted → refused n ≡ first (checks3 (key_of key) seeds secret E κ)
-      → refused n ≡ verdict3 key seeds secret E κ size from work entry
-  unfolding verdict3
-  refusal3_inputs = input_refused (key_checks (key_of key) key) (checks3 (key_of key) seeds secret E κ) lent3
-
-  -- the lent lists' test, of a message of `count` bytes
-  pub refusal3_lent : {τ M count : ℕ} {v : Verdict} → first (key_checks (key_of key) key) ≡ accepted → first (checks3 (key_of key) seeds secret E κ) ≡ accepted
-      → τ ≡ (key_of key).τ → M ≡ (key_of key).M → count ≡ 16 * τ + 32 * (M - τ) + 32
-      → (length (message3 (key_of key) seeds secret E κ) ≡ count → v ≡ first lent3) → v ≡ verdict3 key seeds secret E κ size from work entry
-  unfolding verdict3
-  refusal3_lent {τ} {M} {count} k a eτ eM ec f =
-      let g = inputs_of3 (key_of key) seeds secret E κ (clean _ a) in
-      lent_refused (key_checks (key_of key) key) (checks3 (key_of key) seeds secret E κ) lent3 k a
-      (f (message3_length (key_of key) seeds secret E κ g.seeds_long g.good ∙ sym (ec ∙ ap₂ (λ (x y : ℕ). 16 * x + 32 * (y - x) + 32) eτ eM)))
-
   pub passed3 : verdict3 key seeds secret E κ size from work entry ≡ accepted
       → Passed (key_of key) key (checks3 (key_of key) seeds secret E κ) (message3 (key_of key) seeds secret E κ) size from work entry
   unfolding verdict3
@@ -363,29 +248,6 @@ opened_of K E of g = ap (λ n. count n (opened E)) of.executions_is ∙ opened-c
 pub kept_of : {k : Numbers} (K : Key) (E : List ℕ) → Of k K → good_e K E ≡ true → count k.executions (λ j. not (opened E j)) ≡ k.executions - k.opened
 kept_of K E of g = ap (λ n. count n (λ j. not (opened E j))) of.executions_is ∙ kept-count K E g ∙ sym (ap₂ (λ (x y : ℕ). x - y) of.executions_is of.τ_is)
 
--- what the writer of message 3 is told
-pub record Ready3 (key seeds secret E κ out : List ℕ) (from work entry : ℕ) : Type 0 where
-  pub passes : verdict3 key seeds secret E κ (length out) from work entry ≡ accepted
-  pub of_key : first (key_checks (key_of key) key) ≡ accepted
-  pub inputs : Inputs (key_of key) seeds secret E κ
-  pub shares : 4 * (key_of key).m * (key_of key).N ≤ work
-  pub place : from ≤ length out
-  pub room : length (message3 (key_of key) seeds secret E κ) ≤ length (take (length out - from) (drop from out))
-
-pub ready3 : (key seeds secret E κ out : List ℕ) (from work entry : ℕ) → verdict3 key seeds secret E κ (length out) from work entry ≡ accepted
-    → Ready3 key seeds secret E κ out from work entry
-ready3 key seeds secret E κ out from work entry a =
-    let p = passed3 key seeds secret E κ (length out) from work entry a in
-    record {
-      passes = a;
-      of_key = p.of_key;
-      inputs = inputs_of3 (key_of key) seeds secret E κ p.inputs;
-      shares = p.room.shares;
-      place = p.room.place;
-      room = tail-room out p.room;
-    }
-
--- ---- message 5: the verdict
 pub inputs_of5 : (K : Key) (seeds secret E κ L : List ℕ) → Clean (checks5 K seeds secret E κ L) → (Inputs K seeds secret E κ) × (length L ≡ 16)
 unfolding checks5 statement_checks
 inputs_of5 K seeds secret E κ L c =
@@ -399,60 +261,7 @@ inputs_of5 K seeds secret E κ L c =
       eqb-true (length L) 16 h.1.1.1.0,
     )
 
-module _ (key seeds secret E κ L : List ℕ) (size from work entry : ℕ) where
-  abbrev lent5 : List Check
-  lent5 = lent_checks (key_of key) (message5 (key_of key) seeds secret E κ L) size from work entry
-
-  pub refusal5_key : {n : ℕ} → refused n ≡ first (key_checks (key_of key) key) → refused n ≡ verdict5 key seeds secret E κ L size from work entry
-  unfolding verdict5
-  refusal5_key = key_refused (key_checks (key_of key) key) (checks5 (key_of key) seeds secret E κ L) lent5
-
-  pub refusal5_inputs : {n : ℕ} → first (key_checks (key_of key) key) ≡ accepted → refused n ≡ first (checks5 (key_of key) seeds secret E κ L)
-      → refused n ≡ verdict5 key seeds secret E κ L size from work entry
-  unfolding verdict5
-  refusal5_inputs = input_refused (key_checks (key_of key) key) (checks5 (key_of key) seeds secret E κ L) lent5
-
-  pub refusal5_lent : {v : Verdict} → first (key_checks (key_of key) key) ≡ accepted → first (checks5 (key_of key) seeds secret E κ L) ≡ accepted
-      → (length (message5 (key_of key) seeds secret E κ L) ≡ 32 → v ≡ first lent5) → v ≡ verdict5 key seeds secret E κ L size from work entry
-  unfolding verdict5
-  refusal5_lent k a f =
-      lent_refused (key_checks (key_of key) key) (checks5 (key_of key) seeds secret E κ L) lent5 k a
-      (f (message5_length (key_of key) seeds secret E κ L))
-
-  pub passed5 : verdict5 key seeds secret E κ L size from work entry ≡ accepted
-      → Passed (key_of key) key (checks5 (key_of key) seeds secret E κ L) (message5 (key_of key) seeds secret E κ L) size from work entry
-  unfolding verdict5
-  passed5 = passed (key_of key) key (checks5 (key_of key) seeds secret E κ L) (message5 (key_of key) seeds secret E κ L) size from work entry
-
--- what the writer of message 5 is told
-pub record Ready5 (key seeds secret E κ L out : List ℕ) (from work entry : ℕ) : Type 0 where
-  pub passes : verdict5 key seeds secret E κ L (length out) from work entry ≡ accepted
-  pub of_key : first (key_checks (key_of key) key) ≡ accepted
-  pub inputs : Inputs (key_of key) seeds secret E κ
-  pub seed_long : length L ≡ 16
-  pub shares : 4 * (key_of key).m * (key_of key).N ≤ work
-  pub rows : entries (key_of key) ≤ entry
-  pub long : length (message5 (key_of key) seeds secret E κ L) ≡ 32
-  pub ends : from + 32 ≤ length out
-
-pub ready5 : (key seeds secret E κ L out : List ℕ) (from work entry : ℕ) → verdict5 key seeds secret E κ L (length out) from work entry ≡ accepted
-    → Ready5 key seeds secret E κ L out from work entry
-ready5 key seeds secret E κ L out from work entry a =
-    let p = passed5 key seeds secret E κ L (length out) from work entry a in
-    let i = inputs_of5 (key_of key) seeds secret E κ L p.inputs in
-    let l = message5_length (key_of key) seeds secret E κ L in
-    record {
-      passes = a;
-      of_key = p.of_key;
-      inputs = i.0;
-      seed_long = i.1;
-      shares = p.room.shares;
-      rows = p.room.rows;
-      long = l;
-      ends = omega (arith, p.room.long, l);
-    }
-
--- ---- message 7: the verdict
+-- ---- message 7
 module _ (K : Key) (seeds secret E κ L hidden : List ℕ) where
   pub inputs7_5 : {n : ℕ} → refused n ≡ first (checks5 K seeds secret E κ L) → refused n ≡ first (checks7 K seeds secret E κ L hidden)
   unfolding checks7
@@ -484,59 +293,64 @@ count_7 k K seeds secret E κ L hidden of gE g_h long =
     ∙ (ap (λ (x : ℕ). 16 + x) (sym (replies_are K E hidden K.M)) ∙ sym (length-of k K of (parts_with E hidden []) E hidden refl refl))
 
 module _ (key seeds secret E κ L hidden : List ℕ) (size from work entry : ℕ) where
-  abbrev lent7 : List Check
-  lent7 = lent_checks (key_of key) (message7 (key_of key) seeds secret E κ L hidden) size from work entry
-
-  pub refusal7_key : {n : ℕ} → refused n ≡ first (key_checks (key_of key) key) → refused n ≡ verdict7 key seeds secret E κ L hidden size from work entry
-  unfolding verdict7
-  refusal7_key = key_refused (key_checks (key_of key) key) (checks7 (key_of key) seeds secret E κ L hidden) lent7
-
-  pub refusal7_inputs : {n : ℕ} → first (key_checks (key_of key) key) ≡ accepted → refused n ≡ first (checks7 (key_of key) seeds secret E κ L hidden)
-      → refused n ≡ verdict7 key seeds secret E κ L hidden size from work entry
-  unfolding verdict7
-  refusal7_inputs = input_refused (key_checks (key_of key) key) (checks7 (key_of key) seeds secret E κ L hidden) lent7
-
-  -- the lent lists' test, of a message of `count` bytes
-  pub refusal7_lent : {count : ℕ} {v : Verdict} (k : Numbers) → first (key_checks (key_of key) key) ≡ accepted
-      → first (checks7 (key_of key) seeds secret E κ L hidden) ≡ accepted → Of k (key_of key)
-      → count ≡ 16 + sum k.executions (reply_size (key_with k []) (parts_with E hidden []))
-      → (length (message7 (key_of key) seeds secret E κ L hidden) ≡ count → v ≡ first lent7)
-      → v ≡ verdict7 key seeds secret E κ L hidden size from work entry
-  unfolding verdict7
-  refusal7_lent k a c of ec f =
-      let g = inputs_of7 (key_of key) seeds secret E κ L hidden (clean _ c) in
-      lent_refused (key_checks (key_of key) key) (checks7 (key_of key) seeds secret E κ L hidden) lent7 a c
-      (f (count_7 k (key_of key) seeds secret E κ L hidden of g.0.good g.2 g.0.κ_long ∙ sym ec))
-
   pub passed7 : verdict7 key seeds secret E κ L hidden size from work entry ≡ accepted
       → Passed (key_of key) key (checks7 (key_of key) seeds secret E κ L hidden) (message7 (key_of key) seeds secret E κ L hidden) size from work entry
   unfolding verdict7
   passed7 = passed (key_of key) key (checks7 (key_of key) seeds secret E κ L hidden) (message7 (key_of key) seeds secret E κ L hidden) size from work entry
 
--- what the writer of message 7 is told
-pub record Ready7 (key seeds secret E κ L hidden out : List ℕ) (from work entry : ℕ) : Type 0 where
-  pub passes : verdict7 key seeds secret E κ L hidden (length out) from work entry ≡ accepted
-  pub of_key : first (key_checks (key_of key) key) ≡ accepted
-  pub inputs : Inputs (key_of key) seeds secret E κ
-  pub seed_long : length L ≡ 16
-  pub hides : good_hidden (key_of key) hidden ≡ true
-  pub shares : 4 * (key_of key).m * (key_of key).N ≤ work
-  pub rows : entries (key_of key) ≤ entry
-  pub place : from ≤ length out
-  pub room : length (message7 (key_of key) seeds secret E κ L hidden) ≤ length (take (length out - from) (drop from out))
+-- ---- a call
+module _ (checks : Key → List Check) (message : Key → List ℕ) (key out : List ℕ) (from work entry : ℕ) where
+  abbrev call-verdict : Verdict
+  call-verdict = verdict checks message key (length out) from work entry
 
-pub ready7 : (key seeds secret E κ L hidden out : List ℕ) (from work entry : ℕ) → verdict7 key seeds secret E κ L hidden (length out) from work entry ≡ accepted → Ready7 key seeds secret E κ L hidden out from work entry
-ready7 key seeds secret E κ L hidden out from work entry a =
-    let p = passed7 key seeds secret E κ L hidden (length out) from work entry a in
-    let i = inputs_of7 (key_of key) seeds secret E κ L hidden p.inputs in
-    record {
-      passes = a;
-      of_key = p.of_key;
-      inputs = i.0;
-      seed_long = i.1;
-      hides = i.2;
-      shares = p.room.shares;
-      rows = p.room.rows;
-      place = p.room.place;
-      room = tail-room out p.room;
-    }
+  abbrev call-lent : List Check
+  call-lent = lent_checks (key_of key) (message (key_of key)) (length out) from work entry
+
+  -- what is said, and what is left in the output
+  abbrev Told : ℕ → Type 0
+  Told n = (Refused n ≡ answer_of call-verdict (message (key_of key))) × (out ≡ output call-verdict (message (key_of key)) from out)
+
+  pub by_key : {n : ℕ} → refused n ≡ first (key_checks (key_of key) key) → Told n
+  by_key e = refuses call-verdict _ out from (key_refused _ (checks (key_of key)) call-lent e)
+
+  pub by_inputs : {n : ℕ} → accepted ≡ first (key_checks (key_of key) key) → refused n ≡ first (checks (key_of key)) → Told n
+  by_inputs a e = refuses call-verdict _ out from (input_refused (key_checks (key_of key) key) _ call-lent (sym a) e)
+
+  put_in : (w : Verdict) (m ys : List ℕ) (n : ℕ) → w ≡ accepted → length m ≡ n → ys ≡ m → take from out ++ (ys ++ drop (from + n - from) (drop from out)) ≡ output w m from out
+  unfolding output
+  put_in w m ys n e l y =
+      let k : from + (from + n - from) ≡ from + length m = omega (arith, l) in
+      rw (e, y, drop-drop (from + n - from) from out, k) (sym (append_assoc (take from out) m (drop (from + length m) out)))
+
+-- that a key was read, and the inputs were not refused
+module _ (checks : Key → List Check) (message : Key → List ℕ) (key out : List ℕ) (from work entry : ℕ) {count : ℕ} {k : Numbers} (of : Of k (key_of key))
+    (sizes : (K : Key) → Of k K → first (checks K) ≡ accepted → length (message K) ≡ count)
+    (key_good : accepted ≡ first (key_checks (key_of key) key)) (inputs_good : accepted ≡ first (checks (key_of key))) where
+  -- that the lent lists have this verdict
+  abbrev Lends : Verdict → Type 0
+  Lends v = (K : Key) (m : List ℕ) → K.n ≡ k.n → K.m ≡ k.m → K.N ≡ k.parties → length m ≡ count → v ≡ first (lent_checks K m (length out) from work entry)
+
+  long : length (message (key_of key)) ≡ count
+  long = sizes (key_of key) of (sym inputs_good)
+
+  lent_is : {v : Verdict} → Lends v → v ≡ first (call-lent checks message key out from work entry)
+  lent_is f = f (key_of key) (message (key_of key)) (sym of.n_is) (sym of.m_is) (sym of.parties_is) long
+
+  whole : {v : Verdict} → Lends v → v ≡ call-verdict checks message key out from work entry
+  whole f = lent_refused (key_checks (key_of key) key) (checks (key_of key)) _ (sym key_good) (sym inputs_good) (lent_is f)
+
+  pub by_lent : {n : ℕ} → Lends (refused n) → Told checks message key out from work entry n
+  by_lent f = refuses (call-verdict checks message key out from work entry) _ out from (whole f)
+
+  -- room for the message, and for what it is made with
+  pub has_room : Lends accepted → (from + count ≤ length out) × (k.n * (k.m + 1) ≤ entry) × (3 * k.m * k.parties ≤ work)
+  has_room f =
+      let r = room (key_of key) (message (key_of key)) (length out) from work entry (clean _ (sym (lent_is f))) in
+      (omega (arith, r.long, long), rows_of of r.rows, three_of_four _ _ _ _ _ of.m_is of.parties_is r.shares)
+
+  pub all_written : {ys : List ℕ} → Lends accepted → ys ≡ message (key_of key)
+      → (Length count ≡ answer_of (call-verdict checks message key out from work entry) (message (key_of key)))
+      × (take from out ++ (ys ++ drop (from + count - from) (drop from out)) ≡ output (call-verdict checks message key out from work entry) (message (key_of key)) from out)
+  all_written f is =
+      let v = sym (whole f) in
+      (answer-length (call-verdict checks message key out from work entry) _ count v long, put_in checks message key out from work entry (call-verdict checks message key out from work entry) (message (key_of key)) _ count v long is)

@@ -1,7 +1,9 @@
 -- Document 01, "Where each number is given": what a call of the prover answers.
 -- Assumes nothing.
-use Rattle.std.specs.Prelude.{ℕ, List, length, Result, Ok, Err}
-use Rattle.lists.specs.Check.{Verdict, accepted, refused}
+use Rattle.std.specs.Prelude.{ℕ, List, ◌++◌, length, Result, Ok, Err}
+use Rattle.lists.specs.Check.{Check, Verdict, accepted, refused, first}
+use Rattle.protocol.specs.Key.{Key, key_of, key_checks}
+use Rattle.protocol.specs.Prover.{lent_checks}
 use Rattle.refusals.specs.declared.Refusal.{Refusal}
 use Rattle.refusals.specs.Refused.{number}
 
@@ -18,3 +20,9 @@ answer_of (refused n) message = Refused n
 abbrev pub said : Result ℕ Refusal → Answer
 said (Ok n) = Length n
 said (Err r) = Refused (number r)
+
+-- the verdict on a call whose inputs have these checks and give this message, from the output's length, the place and the lengths of
+-- both work lists
+abbrev pub verdict : (Key → List Check) → (Key → List ℕ) → List ℕ → ℕ → ℕ → ℕ → ℕ → Verdict
+verdict checks message key size from work entry =
+    let K = key_of key in first (key_checks K key ++ checks K ++ lent_checks K (message K) size from work entry)

@@ -8,8 +8,9 @@ ghost use Rattle.protocol.specs.Prover.{lent_checks};
 
 use refusals::Refusal;
 
-// The output's length, the place in it from which on a message is written, and the lengths of both work lists.
-#[derive(Clone, Copy)]
+// The output's length, the place in it from which on a message is written, and the lengths of both work lists: the lists themselves are
+// lent on to the message once they are long enough. Other calls lend other lists, so each has a test of its own.
+#[derive(Clone, Copy, Debug, PartialEq, Eq)]
 pub struct Lent {
     pub size: usize,
     pub place: usize,

@@ -5,16 +5,23 @@ ghost use Rattle.lists.specs.Index.{part};
 
 use key::Numbers;
 
-// A key's numbers, the master seeds, the secret, E and the seed κ.
+// What messages 3, 5 and 7 are given beside the key: the master seeds, the secret, E and the seed κ.
 #[derive(Clone, Copy)]
-pub struct Materials<'a> {
-    pub numbers: Numbers,
+pub struct Given<'a> {
     pub seeds: &'a [u8],
     pub secret: &'a [u8],
     pub e: &'a [u8],
-    pub kappa: &'a [u8; 16],
-    pub ghost seeds_long: { length seeds.now ≡ 16 * numbers.executions },
-    pub ghost secret_long: { length secret.now ≡ numbers.m },
+    pub kappa: &'a [u8],
+}
+
+// A key's numbers, and what was given beside the key, of right lengths.
+#[derive(Clone, Copy)]
+pub struct Materials<'a> {
+    pub numbers: Numbers,
+    pub given: Given<'a>,
+    pub ghost seeds_long: { length given.seeds.now ≡ 16 * numbers.executions },
+    pub ghost secret_long: { length given.secret.now ≡ numbers.m },
+    pub ghost kappa_long: { length given.kappa.now ≡ 16 },
 }
 
 // The master seed of execution x, among the master seeds of all.

@@ -1,25 +1,33 @@
 -- Steps of the proofs of this crate.
 -- Assumes nothing.
-use Prim.Native.Nat.{ℕ, ◌+◌, ◌*◌, ◌-◌, ◌%◌, ◌<◌, ◌≤◌}
-use mathlib.Core.Path.{◌≡◌, refl, sym, ◌∙◌, ap}
-use mathlib.Core.Bool.{Bool, true, false, not}
+use Prim.Native.Nat.{ℕ, zero, suc, ◌+◌, ◌*◌, ◌%◌, ◌<◌, ◌≤◌}
+use Rattle.std.proofs.Math.Nat.{mod-lt}
+use mathlib.Core.Path.{◌≡◌, refl, sym, ◌∙◌, ap, ap₂, subst}
+use mathlib.Core.Bool.{Bool, true, false}
 use mathlib.Core.List.{List, [], ◌∷◌, ◌++◌}
-use native.Mathlib.Nat.{mod-mod}
+use native.Mathlib.Nat.{mul-le-mul}
 use native.Mathlib.Numerals.{add-one}
 use native.Mathlib.Omega.{arith}
-use borrow.Author.Tests.{eq-eqb, ne_eqb, lt-ltb, le-ltb, leb-true, not-true}
+use borrow.Author.Tests.{lt-ltb, le-ltb, leb-true}
 use lib.Dec.{eqb, leb, ltb}
-use Rattle.std.specs.Prelude.{Ok}
-use Rattle.std.proofs.lemmas.List.{get_or-drop, take_all}
-use lib.ListN.{length, get_or, take, drop, length-append, length-drop}
+use Rattle.std.specs.Prelude.{Ok, Option, Some, None, MatchOption}
+use Rattle.std.specs.List.{list_all, range_with_len, fold, zip}
+use Rattle.std.proofs.lemmas.List.{take_all}
+use Rattle.std.proofs.lemmas.List.Sums.{fold_more}
+use Rattle.std.proofs.lemmas.Slice.Zip.{get_or-zip, length-zip}
+use Rattle.std.proofs.lemmas.List.FromFn.{length-range_with_len, get_or-range_with_len}
+use lib.ListN.{length, get_or, take, drop, length-append}
 use Rattle.lists.specs.Tab.{tab, tab-length}
-use Rattle.lists.specs.Index.{pick, every, least, holds}
-use Rattle.lists.specs.TestLaws.{least-found, least-none, every-next, every_stops, every-at, every_ext, pick_true, pick_false, holds-each, Holds, holds-fails}
+use Rattle.lists.specs.Index.{every, least}
+use Rattle.lists.specs.TestLaws.{least-found, least-none, every-at, every_ext, pick_true, pick_false, holds-each, Holds}
+use Rattle.lists.proofs.Chains.{every_list}
 use Rattle.numbers.specs.Mod.{sub}
-use Rattle.numbers.proofs.Mod.{sub_below}
+use Rattle.numbers.specs.Sum.{sum}
+use Rattle.numbers.proofs.Residue.{residue_first, residue_next}
+use Rattle.numbers.proofs.Mod.{cong_trans, cong_eq, cong_mod, cong_same, sub-lt, sub_cong}
 use Rattle.numbers.specs.Output.{u_of, v_of}
 use Rattle.numbers.specs.Residue.{Residue}
-use Rattle.protocol.specs.Key.{Key, t}
+use Rattle.protocol.specs.Key.{Key, A, t}
 use Rattle.protocol.specs.Prover.{solves, binary}
 use Rattle.protocol.specs.Pair.{Reading, secret, square, errors, says}
 use Rattle.reading.specs.declared.Finding.TheVariants.{Secret, Square, Errors}
@@ -28,94 +36,83 @@ use Rattle.reading.specs.Found.{row_of, s_at, u_at, is_wrong, wrong_at, is_secre
 
 -- ---- squares
 
--- the squares before k are right
-pub squared_next : (q m k : ℕ) (x : List ℕ) {v : ℕ} → every k (λ i. not (is_wrong q m x i)) ≡ true → v ≡ (get_or x k 0 * get_or x k 0) % q
-    → get_or x (m + k) 0 ≡ v → every (k + 1) (λ i. not (is_wrong q m x i)) ≡ true
-squared_next q m k x {v} so is e =
-    every-next k (λ i. not (is_wrong q m x i)) so
-    ∙ ap (λ (c : Bool). not (not c)) (eq-eqb (get_or x (m + k) 0) ((get_or x k 0 * get_or x k 0) % q) (e ∙ is))
-
-right_before : (q m k : ℕ) (x : List ℕ) → every k (λ i. not (is_wrong q m x i)) ≡ true → (i : ℕ) → i < k → is_wrong q m x i ≡ false
-right_before q m k x so i h = not_right (every-at k (λ j. not (is_wrong q m x j)) so i h)
-  where
-    not_right : {c : Bool} → not c ≡ true → c ≡ false
-    not_right {c} e = not-true c e
-
-pub wrong_found : (q m k : ℕ) (x : List ℕ) {v : ℕ} → every k (λ i. not (is_wrong q m x i)) ≡ true → v ≡ (get_or x k 0 * get_or x k 0) % q
-    → k < m → (get_or x (m + k) 0 ≡ v → ⊥) → k ≡ wrong_at q m x
+-- the first of the columns whose square is wrong
+pub wrong_first : (q m : ℕ) (x : List ℕ) (r : Option ℕ)
+    → MatchOption r ((k : ℕ) → 0 ≤ k → k < m → is_wrong q m x k ≡ false)
+    (λ i. (0 ≤ i) × (i < m) × (is_wrong q m x i ≡ true) × ((k : ℕ) → 0 ≤ k → k < i → is_wrong q m x k ≡ false))
+    → MatchOption r (m ≤ wrong_at q m x) (λ k. (k < m) × (k ≡ wrong_at q m x))
 unfolding wrong_at
-wrong_found q m k x {v} so is h ne =
-    sym
-    (least-found m (is_wrong q m x) k h
-    (ap not (ne_eqb (get_or x (m + k) 0) ((get_or x k 0 * get_or x k 0) % q) (λ z. ne (z ∙ sym is))))
-    (right_before q m k x so))
-
-pub wrong_none : (q m k : ℕ) (x : List ℕ) → every k (λ i. not (is_wrong q m x i)) ≡ true → m ≤ k → m ≤ wrong_at q m x
-unfolding wrong_at
-wrong_none q m k x so e =
-    let z : least m (is_wrong q m x) ≡ m = least-none m (is_wrong q m x) (λ i h. right_before q m k x so i (omega arith)) in
+wrong_first q m x None h =
+    let z : least m (is_wrong q m x) ≡ m = least-none m (is_wrong q m x) (λ k l. h k (omega arith) l) in
     omega (arith, z)
+wrong_first q m x (Some i) h = (h.1, sym (least-found m (is_wrong q m x) i h.1 h.2 (λ k l. h.3 k (omega arith) l)))
 
 -- ---- differences
 
-pub difference_is : (a b : ℕ) {q r : ℕ} → b < q → Residue q ((a + (q - b)) % q) r → Residue q (sub q a b) r
-difference_is a b h so = rw (sub_below h a) so
+-- what is taken away, and from what, may be reduced first
+pub sub_reduced : (a b : ℕ) {q x y r : ℕ} → 0 < q → x ≡ a % q → y ≡ b % q → Residue q (sub q x y) r → r ≡ sub q a b
+sub_reduced a b {q} {x} {y} h e f so =
+    so.is
+    ∙ cong_same (sub-lt h x y) (sub-lt h a b) (sub_cong h (cong_trans (cong_eq e) (cong_mod q a)) (cong_trans (cong_eq f) (cong_mod q b)))
 
--- what is taken away may be reduced first
-pub sub_reduced : (a b low : ℕ) {q r : ℕ} → low ≡ b % q → Residue q (sub q a low) r → Residue q (sub q a b) r
-unfolding sub
-sub_reduced a b low {q} e so = rw (e, mod-mod b q) at so
-
-pub v_is : (q m : ℕ) (x : List ℕ) (j r : ℕ) → r ≡ sub q (s_at m x j * s_at m x j) (s_at m x j) → r ≡ v_of q (s_at m x) j
+pub v_is : (q m : ℕ) (x : List ℕ) (j : ℕ) {a b r : ℕ} → 0 < q → a ≡ (s_at m x j * s_at m x j) % q → b ≡ s_at m x j % q
+    → Residue q (sub q a b) r → r ≡ v_of q (s_at m x) j
 unfolding v_of
-v_is q m x j r e = e
+v_is q m x j h e f so = sub_reduced _ _ h e f so
 
 -- ---- rows
+
+-- `(0..n).all(p)` and `every`
+all_below : (p : ℕ → Bool) (n : ℕ) → list_all p (range_with_len 0 n) ≡ every n p
+all_below p n =
+    every_list p (range_with_len 0 n)
+    ∙ ap (λ (k : ℕ). every k (λ j. p (get_or (range_with_len 0 n) j 0))) (length-range_with_len 0 n)
+    ∙ every_ext n _ _ (λ j h. ap p (omega (arith, get_or-range_with_len 0 n j 0 h)))
+
+-- where row l of n rows of m numbers ends
+pub row_end : (l m n : ℕ) → l < n → l * m + m ≤ n * (m + 1)
+row_end l m n h = let e : suc l * m ≤ n * m = mul-le-mul {n₁ = suc l} {m₁ = m} {n₂ = n} {m₂ = m} h (omega arith) in omega (arith, e)
+
+-- one turn of a sum of products modulo q
+abbrev pub turn : (q : ℕ) → ℕ → ℕ × ℕ → ℕ
+turn q acc p = (acc + p.0 * p.1) % q
+
+module _ (q : ℕ) (pos : 0 < q) (m : ℕ) (a s : List ℕ) (f : ℕ → ℕ) (la : length a ≡ m) (ls : length s ≡ m) (at : (j : ℕ) → j < m → get_or a j 0 * get_or s j 0 ≡ f j) where
+  long : length (zip a s) ≡ m
+  long = length-zip a s ∙ (omega (arith, la, ls))
+
+  front : (i : ℕ) → i ≤ m → Residue q (sum i f % q) (fold (turn q) 0 (take i (zip a s)))
+  front zero h = residue_first f pos
+  front (suc i) h =
+      let acc = fold (turn q) 0 (take i (zip a s)) in
+      let e : fold (turn q) 0 (take (i + 1) (zip a s)) ≡ (acc + get_or a i 0 * get_or s i 0) % q =
+      fold_more (turn q) 0 (zip a s) i (0, 0) (omega (arith, long)) ∙ ap (turn q acc) (get_or-zip a s i (0, 0) (omega (arith, la)) (omega (arith, ls))) in
+      subst (λ (k : ℕ). Residue q (sum k f % q) (fold (turn q) 0 (take k (zip a s)))) (add-one i)
+      (residue_next i acc (get_or a i 0 * get_or s i 0) f (front i (omega arith)) (cong_eq (at i (omega arith)))
+      (record { is = e; below = subst (λ (z : ℕ). z < q) (sym e) (mod-lt _ pos) }))
+
+  pub row_folded : Residue q (sum m f % q) (fold (turn q) 0 (zip a s))
+  row_folded = subst (λ (z : List (ℕ × ℕ)). Residue q (sum m f % q) (fold (turn q) 0 z)) (take_all m (zip a s) (omega (arith, long))) (front m (omega arith))
 
 module _ (K : Key) (x : List ℕ) where
   abbrev pub is_row : ℕ → Bool
   is_row l = eqb (row_of K x l % K.q) (t K l)
 
-  pub rows_next : (l r : ℕ) → every l is_row ≡ true → r ≡ row_of K x l % K.q → r ≡ t K l → every (l + 1) is_row ≡ true
-  rows_next l r so e h = every-next l is_row so ∙ eq-eqb _ _ (sym e ∙ h)
+  pub row_is : (l : ℕ) (a s : List ℕ) {r : ℕ} → 0 < K.q → length a ≡ K.m → length s ≡ K.m → ((j : ℕ) → j < K.m → get_or a j 0 ≡ A K l j) → ((j : ℕ) → j < K.m → get_or s j 0 ≡ s_at K.m x j)
+      → r ≡ fold (turn K.q) 0 (zip a s) → Residue K.q (row_of K x l % K.q) r
+  row_is l a s pos la ls aj sj e = rw (e) (row_folded K.q pos K.m a s (λ j. A K l j * s_at K.m x j) la ls (λ j h. ap₂ (λ u v. u * v) (aj j h) (sj j h)))
 
-  pub rows_stop : (l r : ℕ) → l < K.n → r ≡ row_of K x l % K.q → (r ≡ t K l → ⊥) → false ≡ solves K (s_at K.m x)
+  pub rows_all : list_all is_row (range_with_len 0 K.n) ≡ solves K (s_at K.m x)
   unfolding solves
-  rows_stop l r h e ne = sym (every_stops K.n is_row l h (ne_eqb (row_of K x l % K.q) (t K l) (λ z. ne (e ∙ z))))
+  rows_all = all_below is_row K.n
 
-  pub rows_all : (l : ℕ) → l ≡ K.n → every l is_row ≡ true → true ≡ solves K (s_at K.m x)
-  unfolding solves
-  rows_all l e so = sym (rw e at so)
-
-  pub u_is : (l row r : ℕ) → row ≡ row_of K x l % K.q → Residue K.q (sub K.q (t K l) row) r → r ≡ u_at K x l
+  pub u_is : (l : ℕ) {a row r : ℕ} → 0 < K.q → a ≡ t K l % K.q → row ≡ row_of K x l % K.q → Residue K.q (sub K.q a row) r → r ≡ u_at K x l
   unfolding u_of
-  u_is l row r e so = (sub_reduced (t K l) (row_of K x l) row e so).is
+  u_is l h e f so = sub_reduced _ _ h e f so
 
 -- ---- the test of a secret
 
-pub bits_of_all : (m : ℕ) (x : List ℕ) {r : Bool} → length x ≡ 3 * m
-    → r ≡ every (length (take (length x - 2 * m) (drop (2 * m) x))) (λ j. leb (get_or (take (length x - 2 * m) (drop (2 * m) x)) j 0) 1)
-    → r ≡ every m (λ j. leb (s_at m x j) 1)
-bits_of_all m x long e =
-    let w : length (drop (2 * m) x) ≡ m = simp length-drop (omega arith) in
-    let all : take (length x - 2 * m) (drop (2 * m) x) ≡ drop (2 * m) x = take_all (length x - 2 * m) (drop (2 * m) x) (omega (arith, w)) in
-    (rw all at e)
-    ∙ ap (λ (n : ℕ). every n (λ j. leb (get_or (drop (2 * m) x) j 0) 1)) w
-    ∙ every_ext m _ _ (λ j h. ap (λ (v : ℕ). leb v 1) (get_or-drop (2 * m) x j 0))
-
 module _ (K : Key) (x : List ℕ) where
-  pub secret_no : solves K (s_at K.m x) ≡ false → false ≡ is_secret K x
-  unfolding is_secret
-  secret_no e = sym (holds-fails (solves K (s_at K.m x) ∷ binary K (s_at K.m x) ∷ []) 0 e)
-
-  pub secret_by : {r : Bool} → solves K (s_at K.m x) ≡ true → r ≡ every K.m (λ j. leb (s_at K.m x j) 1) → r ≡ is_secret K x
-  unfolding is_secret binary holds
-  secret_by {r} e h = h ∙ sym (rw e (last (every K.m (λ j. leb (s_at K.m x j) 1))))
-    where
-      last : (c : Bool) → pick c true false ≡ c
-      last true = refl
-      last false = refl
-
   pub secret_bits : is_secret K x ≡ true → (j : ℕ) → j < K.m → s_at K.m x j ≤ 1
   unfolding is_secret binary
   secret_bits e j h =

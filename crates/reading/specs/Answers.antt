@@ -16,7 +16,7 @@ over l before = l ++ drop (length l) before
 
 -- document 01's number and values of each case of the answer
 abbrev pub means : Result Finding Refusal → Said
-means (Ok (Collision kind e i n)) = found_as 1 (value_list (kinds.number kind) e i n 0 0 0)
+means (Ok (Collision kind e i n)) = found_as 1 (value_list (kinds.number kind) e (kinds.party_number i) n 0 0 0)
 means (Ok Secret) = found_as 2 (value_list 0 0 0 0 0 0 0)
 means (Ok (Square e k b d)) = found_as 3 (value_list 0 e 0 0 k b d)
 means (Ok (Errors e)) = found_as 4 (value_list 0 e 0 0 0 0 0)

@@ -4,7 +4,7 @@ ghost use Rattle.std.specs.Prelude.{◌≡◌, ◌*◌, length};
 
 use key::ReadKey;
 
-// b, then d, then s, m numbers each.
+// b, then d, then s, m numbers each. Nothing compares or prints them.
 #[derive(Clone, Copy)]
 pub struct Values<'a> {
     pub key: ReadKey<'a>,
@@ -20,7 +20,7 @@ impl Values<'_> {
     ghost use Rattle.numbers.specs.Residue.{Residue};
     ghost use Rattle.protocol.specs.Key.{t};
     ghost use Rattle.protocol.specs.Prover.{solves};
-    ghost use Rattle.reading.specs.Found.{row_of, s_at, u_at, wrong_at, is_secret, uv_at};
+    ghost use Rattle.reading.specs.Found.{row_of, s_at, u_at, is_wrong, wrong_at, is_secret, uv_at};
     ghost use Rattle.reading.specs.Keyed.{keyed};
 
     // s(k).
@@ -31,21 +31,18 @@ impl Values<'_> {
         self.sums[2 * self.key.numbers.m + k]
     }
 
-    // Row l of A times s, modulo q.
+    // Row l of A times s, modulo q. Beside forms' row_sum, whose numbers are bytes: one over both would take iterators of u32, with a `map`
+    // from bytes and from entries at each call, and be as long.
     fn row(self, l: usize) -> u32
         requires { l < self.key.numbers.n }
         ensures { Residue self.entry.key.numbers.modulus.q (row_of (keyed self.entry) self.entry.sums.now l % self.entry.key.numbers.modulus.q) result }
     {
         let m = self.key.numbers.m;
-        let mut acc = 0;
-        for j in 0..m {
-            acc = self
-                .key
-                .numbers
-                .modulus
-                .mul_add(acc, self.key.entries[l * m + j], self.s(j));
-        }
-        acc
+        let modulus = self.key.numbers.modulus;
+        let a = &self.key.entries[l * m..][..m];
+        a.iter()
+            .zip(&self.sums[2 * m..])
+            .fold(0, |acc, (&a, &s)| modulus.mul_add(acc, a, s))
     }
 
     // t(l).
@@ -60,12 +57,7 @@ impl Values<'_> {
     fn is_solution(self) -> bool
         ensures { result ≡ solves (keyed self.entry) (s_at self.entry.key.numbers.m self.entry.sums.now) }
     {
-        for l in 0..self.key.numbers.n {
-            if self.row(l) != self.t(l) {
-                return false;
-            }
-        }
-        true
+        (0..self.key.numbers.n).all(|l| self.row(l) == self.t(l))
     }
 
     // Each s(k) is 0 or 1.
@@ -76,28 +68,32 @@ impl Values<'_> {
     }
 
     // A·s = t, and each s(k) is 0 or 1.
-    pub fn is_secret(self) -> bool
+    #[tactic(auto, unfolding(crate::specs::Found::is_secret, protocol::specs::Prover::binary, lists::specs::Index::holds))]
+    pub(crate) fn is_secret(self) -> bool
         ensures { result ≡ is_secret (keyed self.entry) self.entry.sums.now }
     {
         self.is_solution() && self.is_binary()
     }
 
-    // The smallest k at which d(k) isn't b(k)².
-    pub fn wrong_square(self) -> Option<usize>
-        ensures { MatchOption result (self.entry.key.numbers.m ≤ wrong_at self.entry.key.numbers.modulus.q self.entry.key.numbers.m self.entry.sums.now) (λ k. (k < self.entry.key.numbers.m) × (k ≡ wrong_at self.entry.key.numbers.modulus.q self.entry.key.numbers.m self.entry.sums.now)) }
+    // d(k) isn't b(k)².
+    fn is_wrong(self, k: usize) -> bool
+        requires { k < self.key.numbers.m }
+        ensures { result ≡ is_wrong self.entry.key.numbers.modulus.q self.entry.key.numbers.m self.entry.sums.now k }
     {
-        let m = self.key.numbers.m;
-        for k in 0..m {
-            let b = self.sums[k];
-            if self.sums[m + k] != self.key.numbers.modulus.mul(b, b) {
-                return Some(k);
-            }
-        }
-        None
+        let b = self.sums[k];
+        self.sums[self.key.numbers.m + k] != self.key.numbers.modulus.mul(b, b)
     }
 
-    // The secret, once each s(k) is known to be 0 or 1.
-    pub fn write_bits(self, out: &mut [u8])
+    // The smallest k at which d(k) isn't b(k)².
+    pub(crate) fn wrong_square(self) -> Option<usize>
+        ensures { MatchOption result (self.entry.key.numbers.m ≤ wrong_at self.entry.key.numbers.modulus.q self.entry.key.numbers.m self.entry.sums.now) (λ k. (k < self.entry.key.numbers.m) × (k ≡ wrong_at self.entry.key.numbers.modulus.q self.entry.key.numbers.m self.entry.sums.now)) }
+    {
+        (0..self.key.numbers.m).find(|&k| self.is_wrong(k))
+    }
+
+    // The secret, once each s(k) is known to be 0 or 1. Its loop and those of `write_u` and `write_v` are a `for` of two lines each: a
+    // function that takes the number at a place as a closure would be called in as many.
+    pub(crate) fn write_bits(self, out: &mut [u8])
         requires binary { (j : ℕ) → j < self.key.numbers.m → s_at self.key.numbers.m self.sums.now j ≤ 1 }
         requires out_long { length out.old ≡ self.key.numbers.m }
         ensures { out.new ≡ tab self.entry.key.numbers.m (s_at self.entry.key.numbers.m self.entry.sums.now) }
@@ -112,7 +108,18 @@ impl Values<'_> {
         requires { l < self.key.numbers.n }
         ensures { result ≡ u_at (keyed self.entry) self.entry.sums.now l }
     {
-        crate::difference(self.key.numbers.modulus, self.t(l) as u64, self.row(l))
+        let modulus = self.key.numbers.modulus;
+        modulus.sub(modulus.reduced(u64::from(self.t(l))), self.row(l))
+    }
+
+    // v(j) = s(j)² - s(j).
+    fn v_at(self, j: usize) -> u32
+        requires { j < self.key.numbers.m }
+        ensures { result ≡ v_of self.entry.key.numbers.modulus.q (s_at self.entry.key.numbers.m self.entry.sums.now) j }
+    {
+        let modulus = self.key.numbers.modulus;
+        let s = self.s(j);
+        modulus.sub(modulus.mul(s, s), modulus.reduced(u64::from(s)))
     }
 
     // u(1) .. u(n).
@@ -131,12 +138,12 @@ impl Values<'_> {
         ensures { out.new ≡ tab self.entry.key.numbers.m (v_of self.entry.key.numbers.modulus.q (s_at self.entry.key.numbers.m self.entry.sums.now)) }
     {
         for (j, v) in out.iter_mut().enumerate() {
-            *v = crate::v_at(self.key.numbers.modulus, self.s(j));
+            *v = self.v_at(j);
         }
     }
 
     // u(1) .. u(n), then v(1) .. v(m).
-    pub fn write_errors(self, out: &mut [u32])
+    pub(crate) fn write_errors(self, out: &mut [u32])
         requires { length out.old ≡ self.key.numbers.n + self.key.numbers.m }
         ensures { out.new ≡ uv_at (keyed self.entry) self.entry.sums.now }
     {

@@ -5,8 +5,6 @@
 ghost use Rattle.std.specs.Prelude.{◌≡◌};
 ghost use Rattle.refusals.specs.Refused.{number};
 
-use std::fmt;
-
 #[derive(Clone, Copy, Debug, PartialEq, Eq)]
 pub enum Refusal {
     // The key, first in every call.
@@ -75,16 +73,11 @@ impl Refusal {
     }
 }
 
+// The same number as a conversion, as a caller with a `u32` to give writes it.
 impl From<Refusal> for u32 {
     fn from(refusal: Refusal) -> u32
         ensures { result ≡ number refusal }
     {
         refusal.number()
-    }
-}
-
-impl fmt::Display for Refusal {
-    fn fmt<W: fmt::Write>(&self, f: &mut fmt::Formatter<W>) -> fmt::Result {
-        write!(f, "{}", self.number())
     }
 }

@@ -1,5 +1,5 @@
 // Judges the files `run01`, `run02` and so on up to `run99` with the file `key`, of each its first 65536 bytes, and prints the sheet of the
-// shift. The first run that cannot be opened ends it; a missing `key` is an empty one.
+// shift. The first run that cannot be opened ends it; a missing `key` is an empty one. Lists have the largest size, since there is no heap.
 #![tactic(auto)]
 
 ghost use Rattle.std.specs.Prelude.{◌≤◌, ◌≡◌, length, take};
@@ -9,7 +9,7 @@ use answer::code::verdict_code;
 use loading::load;
 use std::rt::Files;
 
-// The judge's numbers for the runs before the first that cannot be opened; returns how many they are.
+// The judge's numbers, which the sheet shows, for the runs before the first that cannot be opened; returns how many they are.
 fn judge_runs<R: Files>(files: &R, key: &[u8], run: &mut [u8], verdicts: &mut [u32]) -> usize
     requires { length verdicts.old ≡ 99 }
     ensures upper_bound { result ≤ 99 }

@@ -14,7 +14,7 @@ use Rattle.lists.specs.Written.{two_parts}
 use Rattle.lists.specs.Tab.{tab, tab-at, tab_ext, tab-length, Filling}
 use Rattle.lists.specs.Index.{pick, part}
 use Rattle.lists.specs.Bytes.{le4, words, nums}
-use Rattle.lists.specs.CatLaws.{nums_ext, nums_split, part_length}
+use Rattle.lists.specs.CatLaws.{nums_ext, nums_split}
 use Rattle.lists.specs.TestLaws.{pick_false}
 use Rattle.numbers.specs.Mod.{sub}
 use Rattle.numbers.proofs.Mod.{sub-lt, sub_is, sub_cong, cong_trans, cong_sym, cong_eq, cong_mod, cong_same}
@@ -26,7 +26,6 @@ use Rattle.protocol.specs.Shares.{View, b, s, α, αsum, o, Γ, dealt}
 use Rattle.protocol.specs.Prover.{reply}
 use Rattle.execution.proofs.Held.{d_last, s_last}
 use Rattle.execution.specs.Shown.{Sized, Seeded, place_of}
-use Rattle.execution.specs.Lists.{alpha_at}
 use Rattle.execution.specs.Prepared.{Dealt, last_count}
 use Rattle.execution.proofs.Laws.{inside}
 use Rattle.views.specs.Seen.{ForH}
@@ -100,11 +99,6 @@ module _ {q n m N e : ℕ} {entries work : List ℕ} {K : Key} {v : View} (so : 
       → outs ≡ tab N (o K v L)
   held-outputs p L is = is ∙ tab_ext N _ _ (output_is (held_stated p) L)
 
--- α(k, i) as it is for whoever may hide a party, where nobody is hidden
-pub alpha_shown : (q m N hid : ℕ) (given work : List ℕ) (k i : ℕ) → hid ≡ N → i < N → alpha_at q m hid given work k i ≡ alpha_share q m work i k
-unfolding alpha_at alpha_share
-alpha_shown q m N hid given work k i nobody h = rw (ne_eqb i hid (λ z. let no : ⊥ = omega arith in no))
-
 -- the outputs fill their list, and of the sums that they take only those of α count
 pub fills : (q n m N e : ℕ) (L entries work before : List ℕ) {w : ℕ} {sums after : List ℕ} → Filling w sums m (alpha_sum q m N work) → length before ≡ N
     → after ≡ tab N (output_at q n m N N e 0 L entries sums work) ++ drop N before
@@ -153,13 +147,6 @@ module _ (m N h : ℕ) (work : List ℕ) where
       let z : suc h ≡ N = omega arith in
       let none : length out ≡ 4 * 0 = rw (eq-eqb (suc h) N z) at long in
       rw (eq-eqb (suc h) N z) (empty out (omega arith))
-
-  pub last-room : (n : ℕ) → (h + 1 ≡ N → ⊥) → n ≡ 4 * last_count m N h → 3 * m * (N - 1) + m + 2 * m ≤ length work
-      → n ≡ 4 * length (take (3 * m * (N - 1) + m + 2 * m - (3 * m * (N - 1) + m)) (drop (3 * m * (N - 1) + m) work))
-  last-room n other long room =
-      let z : 3 * m * (N - 1) + m + 2 * m - (3 * m * (N - 1) + m) ≡ 2 * m = omega arith in
-      let some : n ≡ 4 * (2 * m) = rw (ne_eqb (suc h) N (λ y. other (omega arith))) at long in
-      some ∙ ap (λ x. 4 * x) (sym (ap (λ x. length (take x (drop (3 * m * (N - 1) + m) work))) z ∙ part_length work (3 * m * (N - 1) + m) (2 * m) room))
 
   pub last_some : (out : List ℕ) → (h + 1 ≡ N → ⊥)
       → out ≡ words (take (3 * m * (N - 1) + m + 2 * m - (3 * m * (N - 1) + m)) (drop (3 * m * (N - 1) + m) work)) → out ≡ last_numbers m N work h

@@ -6,8 +6,8 @@ ghost use Rattle.numbers.specs.Residue.{Residue};
 ghost use Rattle.outputs.specs.Stated.{output_at};
 ghost use Rattle.response.specs.Held.{alpha_sum};
 
-use execution::Evaluation;
 use execution::shares::column;
+use execution::{Evaluation, fill};
 
 // α(k): the sum of all s less the sum of all b.
 #[tactic(auto, using(crate::proofs::Laws::alpha_sum_is, numbers::proofs::Inverse::q_positive), unfolding(crate::specs::Held::alpha_sum))]
@@ -27,7 +27,8 @@ fn alpha_sum(evaluation: Evaluation, k: usize) -> u32
     modulus.sub(s, b)
 }
 
-// o(1) .. o(N) of an execution whose shares stand in the work list, nobody's hidden.
+// o(1) .. o(N) of an execution whose shares stand in the work list, nobody's hidden: the 0 that `outputs` takes for a hidden party's output
+// counts for nothing. The sums stand in a list of fixed size, as there is no heap.
 pub fn dealt_outputs(evaluation: Evaluation, execution: usize, seed: &[u8; 16], outs: &mut [u32])
     requires nobody_hidden { evaluation.hidden ≡ evaluation.parties }
     requires execution_bound { execution < 32 }
@@ -35,8 +36,7 @@ pub fn dealt_outputs(evaluation: Evaluation, execution: usize, seed: &[u8; 16], 
     ensures { outs.new ≡ tab evaluation.entry.parties (output_at evaluation.entry.modulus.q evaluation.entry.n evaluation.entry.m evaluation.entry.parties evaluation.entry.parties execution 0 seed.now evaluation.entry.entries.now (tab evaluation.entry.m (alpha_sum evaluation.entry.modulus.q evaluation.entry.m evaluation.entry.parties evaluation.entry.work.now)) evaluation.entry.work.now) }
 {
     let mut sums = [0; 128];
-    for k in 0..evaluation.m {
-        sums[k] = alpha_sum(evaluation, k);
-    }
-    outputs::outputs(evaluation, execution, seed, 0, &sums, outs);
+    let sums = &mut sums[..evaluation.m];
+    fill(sums, |k| alpha_sum(evaluation, k));
+    outputs::outputs(evaluation, execution, seed, 0, sums, outs);
 }

@@ -2,10 +2,8 @@
 
 ghost use Rattle.std.specs.Prelude.{◌≡◌, ◌+◌, ◌*◌, ◌<◌, ◌≤◌, length};
 ghost use Rattle.lists.specs.Bytes.{nums};
-ghost use Rattle.protocol.specs.Key.{Key, depth as depth_of};
+ghost use Rattle.protocol.specs.Key.{Key};
 ghost use Rattle.protocol.specs.Shares.{View, o};
-ghost use Rattle.protocol.specs.Prover.{reply as reply_to};
-ghost use Rattle.execution.specs.Shown.{Seeded};
 ghost use Rattle.execution.specs.Lists.{Reduced};
 ghost use Rattle.execution.specs.Prepared.{last_count};
 ghost use Rattle.response.specs.Held.{Held};
@@ -13,20 +11,21 @@ ghost use Rattle.response.specs.Replies.{alpha_share, last_numbers, numbers_of, 
 
 use crate::dealt;
 use bytes4::put32;
-use execution::{Dealing, Evaluation, Lists, OpenShares, Statement, prepare};
-use views::answers::alpha;
+use execution::{Dealing, Evaluation, Lists, OpenShares, Statement, fill, prepare};
+use views::answers::alpha_open;
 use views::parties;
 
-// α(1, i) .. α(m, i), four bytes each.
+// α(1, i) .. α(m, i), four bytes each. They stand in a list of fixed size first, as there is no heap.
 fn put_alphas(shares: OpenShares, i: usize, out: &mut [u8])
-    requires nobody_hidden { shares.hidden ≡ shares.parties }
     requires i_lt_parties { i < shares.parties }
+    requires open { i ≡ shares.hidden → ⊥ }
     requires out_long { length out.old ≡ 4 * shares.m }
     ensures { out.new ≡ nums shares.entry.m (alpha_share shares.entry.modulus.q shares.entry.m shares.entry.work.now i) }
 {
-    for k in 0..shares.m {
-        put32(alpha(shares, k, i, &[]), &mut out[4 * k..4 * k + 4]);
-    }
+    let mut alphas = [0; 128];
+    let alphas = &mut alphas[..shares.m];
+    fill(alphas, |k| alpha_open(shares, k, i));
+    bytes4::put_numbers(alphas, out);
 }
 
 // d(1) .. d(m) and s(1) .. s(m) of party N, unless it is hidden.
@@ -56,7 +55,7 @@ fn put_numbers(shares: OpenShares, hidden: usize, o: u32, out: &mut [u8])
     put_last(shares, hidden, &mut out[mid + 4..]);
 }
 
-// o of one party.
+// o of one party. The outputs stand in a list of fixed size, as there is no heap.
 fn output_of(evaluation: Evaluation, execution: usize, party: usize, seed: &[u8; 16]) -> u32
     requires nobody_hidden { evaluation.hidden ≡ evaluation.parties }
     requires execution_bound { execution < 32 }
@@ -68,7 +67,7 @@ fn output_of(evaluation: Evaluation, execution: usize, party: usize, seed: &[u8;
     outs[party]
 }
 
-// A reply whose o is given.
+// A reply whose o is given. Nobody is hidden from whoever writes it: `parties`, as at `execution::shares::draw_shares`.
 fn write_reply(
     dealing: Dealing,
     execution: usize,
@@ -109,60 +108,15 @@ fn write_reply(
     };
     let seeds = 16 * depth;
     tree::open_all_but(depth, master, hidden, &mut out[..seeds]);
-    let gamma = parties::gamma_at(lists, parties, execution, hidden, &[]);
+    let gamma = parties::gamma_open(lists, execution, hidden);
     out[seeds..seeds + 32].copy_from_slice(&gamma);
     put_numbers(shares, hidden, o, &mut out[seeds + 32..]);
 }
 
-// The reply of an execution whose seeds and shares stand in the lists, into a list of its length.
-fn reply(
-    statement: Statement,
-    execution: usize,
-    hidden: usize,
-    master: &[u8; 16],
-    seed: &[u8; 16],
-    leaves: &[u8],
-    work: &[u32],
-    out: &mut [u8],
-)
-    requires execution_bound { execution < 32 }
-    requires depth_bound { statement.depth ≤ 5 }
-    requires hidden_lt_parties { hidden < statement.parties }
-    requires leaves_long { length leaves.now ≡ 16 * statement.parties }
-    requires work_long { 3 * statement.m * statement.parties ≤ length work.now }
-    requires reduced { Reduced statement.modulus.q statement.m statement.parties statement.parties work.now }
-    requires out_long { length out.old ≡ 16 * statement.depth + 32 + 4 * (statement.m + 1 + last_count statement.m statement.parties hidden) }
-    ensures { (K : Key) (v : View) → depth_of K ≡ statement.entry.depth → Held statement.entry.modulus.q statement.entry.n statement.entry.m statement.entry.parties execution statement.entry.entries.now work.now K v → Seeded K v leaves.now → out.new ≡ reply_to K v master.now seed.now hidden }
-{
-    let Statement {
-        modulus,
-        n,
-        m,
-        parties,
-        depth,
-        entries,
-    } = statement;
-    let evaluation = Evaluation {
-        modulus,
-        n,
-        m,
-        parties,
-        hidden: parties,
-        entries,
-        work,
-    };
-    let o = output_of(evaluation, execution, hidden, seed);
-    let dealing = Dealing {
-        modulus,
-        m,
-        parties,
-        depth,
-    };
-    write_reply(dealing, execution, hidden, o, master, leaves, work, out);
-}
-
 // The reply of an execution that is dealt from its master seed and the secret, into a list of its length. The seeds and shares go to
-// `leaves` and `work`.
+// `leaves` and `work`; nobody is hidden there, as in `write_reply`. The seeds, the secret and the lists are lent each by itself, hence nine
+// parameters: one struct of them would be made for this one call. Message 5 deals and computes the outputs by the same two calls, and hashes
+// them.
 pub fn dealt_reply(
     statement: Statement,
     execution: usize,
@@ -192,7 +146,15 @@ pub fn dealt_reply(
         depth: statement.depth,
     };
     prepare::deal(dealing, master, secret, leaves, work);
-    reply(
-        statement, execution, hidden, master, seed, leaves, work, out,
-    );
+    let evaluation = Evaluation {
+        modulus: statement.modulus,
+        n: statement.n,
+        m: statement.m,
+        parties: statement.parties,
+        hidden: statement.parties,
+        entries: statement.entries,
+        work,
+    };
+    let o = output_of(evaluation, execution, hidden, seed);
+    write_reply(dealing, execution, hidden, o, master, leaves, work, out);
 }

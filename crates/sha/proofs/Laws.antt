@@ -1,8 +1,11 @@
 -- Laws of the state and of the padding, over plain lists and numbers. Assumes nothing.
-use Rattle.std.proofs.Common.{◌≡◌, ℕ, zero, suc, ◌+◌, ◌-◌, ◌*◌, ◌/◌, ◌%◌, ◌^◌, ◌<◌, ◌≤◌, List, ◌∷◌, ◌++◌, length, get_or, take, drop, replicate, sym, refl, ap, ◌∙◌, add-one, arith, length-append, length-drop, take-append-drop, drop_of_length-le, length-take-le, take_all}
+use Rattle.std.proofs.Common.{◌≡◌, ℕ, zero, suc, ◌+◌, ◌-◌, ◌*◌, ◌/◌, ◌%◌, ◌^◌, ◌<◌, ◌≤◌, List, [], ◌∷◌, ◌++◌, length, get_or, take, drop, replicate, sym, refl, ap, ◌∙◌, add-one, arith, append_assoc, append-nil, Bor, length-append, length-drop, take-append-drop, drop_of_length-le, length-take-le, take_all}
 use native.Mathlib.Nat.{mod-add-mod}
 use borrow.Rule.Slice.PartMut.{put_mid}
 use lib.Seq.{take-append-le, drop-append-le, drop_at}
+use Rattle.std.specs.Iterator.{Yields}
+use Rattle.std.specs.Slice.Iter.{chunks_exact_rest, chunks_exact_size, chunks_exact_steps}
+use Rattle.std.specs.List.{FoldsTo}
 use Rattle.std.specs.Int.{w32, w64, to_be_bytes}
 use Rattle.std.proofs.lemmas.Nat.{shr-shr}
 use Rattle.std.proofs.lemmas.Slice.{take-put_mid}
@@ -101,6 +104,29 @@ block_more p x v r h l e f =
       rw q (absorb-more (length p / 64) (p ++ x) v r (e ∙ sym (absorb-front (length p / 64) p x (omega arith))) (rw b f)),
     )
 
+-- the blocks xs that the iterator s gives before it is t, after whole blocks p
+pub blocks_folded : (F : Type 0) (R : F × List ℕ → Bor (List ℕ) → F × List ℕ → Type 0)
+    → (xs : List (Bor (List ℕ))) (s t : _) (p : List ℕ) (a b : F × List ℕ)
+    → chunks_exact_size s ≡ 64 → length p % 64 ≡ 0 → length (chunks_exact_rest s) % 64 ≡ 0 → a.1 ≡ absorb (length p / 64) p
+    → Yields chunks_exact_steps s xs t → FoldsTo R a xs b
+    → ((a : F × List ℕ) (x : Bor (List ℕ)) (b : F × List ℕ) → R a x b → b.1 ≡ compress a.1 x.now)
+    → (q : List ℕ) × (p ++ chunks_exact_rest s ≡ q ++ chunks_exact_rest t) × (chunks_exact_size t ≡ 64)
+    × (length (chunks_exact_rest t) % 64 ≡ 0) × (b.1 ≡ absorb (length q / 64) q)
+blocks_folded F R [] s t p a b size whole rest h y f turn =
+    (p, ap (λ u. p ++ chunks_exact_rest u) y, ap (λ u. chunks_exact_size u) (sym y) ∙ size, ap (λ u. length (chunks_exact_rest u) % 64) (sym y) ∙ rest, ap (λ u. u.1) (sym f) ∙ h)
+blocks_folded F R (x ∷ xs) s t p a b size whole rest h y f turn =
+    let u = y.0 in
+    let cut : chunks_exact_rest s ≡ x.now ++ chunks_exact_rest u = y.1.1.0 in
+    let long : length x.now ≡ 64 = y.1.1.1 ∙ size in
+    let next = block_more p x.now _ _ whole long h (turn a x f.0 f.1) in
+    let more = blocks_folded F R xs u t (p ++ x.now) f.0 b (y.1.0 ∙ size) next.0
+    (omega (arith, rest, long, ap (λ (l : List ℕ). length l) cut, length-append x.now (chunks_exact_rest u))) next.1 y.2 f.2 turn in
+    (more.0, ap (λ (l : List ℕ). p ++ l) cut ∙ (sym (append_assoc p x.now _) ∙ more.1), more.2, more.3, more.4)
+
+pub all_taken : (p q rest : List ℕ) → p ≡ q ++ rest → length rest < 64 → length rest % 64 ≡ 0 → q ≡ p
+all_taken p q [] e h k = sym (e ∙ append-nil q)
+all_taken p q (x ∷ xs) e h k = absurd (omega arith)
+
 -- whole blocks after whole blocks
 pub blocks_stand : (s : Sha) (m d v : List ℕ) (n t : ℕ) → n ≡ length d → s.count % 64 ≡ 0 → length d % 64 ≡ 0
     → ((m : List ℕ) → length m % 64 ≡ 0 → s.h ≡ absorb (length m / 64) m → v ≡ absorb (length (m ++ d) / 64) (m ++ d))
@@ -148,10 +174,6 @@ fed_parts s r d n h f = rw (take_all (length d - n) (drop n d) (omega (arith, le
 -- the whole blocks at the front of d
 pub front-whole : (d : List ℕ) → length (take (length d / 64 * 64) d) % 64 ≡ 0
 front-whole d = rw (length-take-le (length d / 64 * 64) d (whole_le _)) (omega arith)
-
--- the bytes of d that the block has room for
-pub room-front : (c : ℕ) (d : List ℕ) → 64 - c % 64 ≤ length d → c % 64 + length (take (64 - c % 64) d) ≡ 64
-room-front c d h = rw (length-take-le (64 - c % 64) d h) (omega arith)
 
 take-replicate : (n m a : ℕ) → n ≤ m → take n (replicate m a) ≡ replicate n a
 take-replicate zero m a h = refl

@@ -1,10 +1,12 @@
 // The compression function of SHA-256 (FIPS 180-4, 6.2.2). Sums modulo 2^32 are `wrapping_add`.
 #![tactic(auto)]
 
-ghost use Rattle.std.specs.Prelude.{◌≡◌, ℕ, ◌+◌, ◌*◌, ◌%◌, ◌<◌, ◌≤◌, List, length, take, slice_index};
+ghost use Rattle.std.specs.Prelude.{◌≡◌, ℕ, ◌+◌, ◌*◌, ◌<◌, ◌≤◌, List, length, take, fold, zip, bit_xor};
 ghost use Rattle.sha_core.specs.Examples.{abc, abc_digest, letters, letters_digest};
 ghost use Rattle.sha_core.specs.Filled.{Filled};
-ghost use Rattle.sha_core.specs.Fips180.{K, M, Ch, Maj, Σ0, Σ1, σ0, σ1, W, schedule, round, rounds, added, compress, sha256};
+ghost use Rattle.sha_core.specs.Fips180.{ROTR, SHR, Ch, Maj, W, schedule, round, rounds, added, compress, sha256};
+
+use std::array;
 
 static CONSTANTS: [u32; 64] = [
     0x428a2f98, 0x71374491, 0xb5c0fbcf, 0xe9b5dba5, 0x3956c25b, 0x59f111f1, 0x923f82a4, 0xab1c5ed5,
@@ -16,15 +18,6 @@ static CONSTANTS: [u32; 64] = [
     0x19a4c116, 0x1e376c08, 0x2748774c, 0x34b0bcb5, 0x391c0cb3, 0x4ed8aa4a, 0x5b9cca4f, 0x682e6ff3,
     0x748f82ee, 0x78a5636f, 0x84c87814, 0x8cc70208, 0x90befffa, 0xa4506ceb, 0xbef9a3f7, 0xc67178f2,
 ];
-
-// The constant K_t.
-#[tactic(auto, unfolding(crate::specs::Fips180::K))]
-fn constant(t: usize) -> u32
-    requires { t < 64 }
-    ensures { result ≡ slice_index K t }
-{
-    CONSTANTS[t]
-}
 
 fn ch(x: u32, y: u32, z: u32) -> u32
     ensures { result ≡ Ch x y z }
@@ -38,75 +31,55 @@ fn maj(x: u32, y: u32, z: u32) -> u32
     (x & y) ^ (x & z) ^ (y & z)
 }
 
-fn upper_zero(x: u32) -> u32
-    ensures { result ≡ Σ0 x }
+// Three rotations: Σ0 and Σ1.
+fn upper<const A: u32, const B: u32, const C: u32>(x: u32) -> u32
+    requires { (0 < A) × (A < 32) × (0 < B) × (B < 32) × (0 < C) × (C < 32) }
+    ensures { result ≡ bit_xor (bit_xor (ROTR A x) (ROTR B x)) (ROTR C x) }
 {
-    x.rotate_right(2) ^ x.rotate_right(13) ^ x.rotate_right(22)
+    x.rotate_right(A) ^ x.rotate_right(B) ^ x.rotate_right(C)
 }
 
-fn upper_one(x: u32) -> u32
-    ensures { result ≡ Σ1 x }
+// Two rotations and a shift: σ0 and σ1.
+fn lower<const A: u32, const B: u32, const C: u32>(x: u32) -> u32
+    requires { (0 < A) × (A < 32) × (0 < B) × (B < 32) × (0 < C) × (C < 32) }
+    ensures { result ≡ bit_xor (bit_xor (ROTR A x) (ROTR B x)) (SHR C x) }
 {
-    x.rotate_right(6) ^ x.rotate_right(11) ^ x.rotate_right(25)
-}
-
-fn lower_zero(x: u32) -> u32
-    ensures { result ≡ σ0 x }
-{
-    x.rotate_right(7) ^ x.rotate_right(18) ^ (x >> 3)
-}
-
-fn lower_one(x: u32) -> u32
-    ensures { result ≡ σ1 x }
-{
-    x.rotate_right(17) ^ x.rotate_right(19) ^ (x >> 10)
+    x.rotate_right(A) ^ x.rotate_right(B) ^ (x >> C)
 }
 
 // One turn of 6.2.2, 3.
 #[tactic(auto, unfolding(crate::specs::Fips180::round, crate::specs::Fips180::T1, crate::specs::Fips180::T2))]
-fn step(v: [u32; 8], k: u32, w: u32) -> [u32; 8]
-    ensures { result ≡ round v k w }
+fn step(v: [u32; 8], kw: (&u32, &u32)) -> [u32; 8]
+    ensures { result ≡ round v kw.entry.0.now kw.entry.1.now }
 {
+    let (k, w) = kw;
     let [a, b, c, d, e, f, g, h] = v;
     let t1 = h
-        .wrapping_add(upper_one(e))
+        .wrapping_add(upper::<6, 11, 25>(e))
         .wrapping_add(ch(e, f, g))
-        .wrapping_add(k)
-        .wrapping_add(w);
-    let t2 = upper_zero(a).wrapping_add(maj(a, b, c));
+        .wrapping_add(*k)
+        .wrapping_add(*w);
+    let t2 = upper::<2, 13, 22>(a).wrapping_add(maj(a, b, c));
     [t1.wrapping_add(t2), a, b, c, d.wrapping_add(t1), e, f, g]
 }
 
-// The turn t.
-fn step_at(w: &[u32; 64], t: usize, v: [u32; 8]) -> [u32; 8]
-    requires { t < 64 }
-    ensures { result ≡ round v (slice_index K t) (slice_index w.now t) }
+// A turn for each of these constants and words.
+fn turns(v: &[u32; 8], k: &[u32], w: &[u32]) -> [u32; 8]
+    ensures { result ≡ fold (λ v p. round v p.0 p.1) v.now (zip k.now w.now) }
 {
-    step(v, constant(t), w[t])
+    k.iter().zip(w).fold(*v, step)
 }
 
-// The turns t .. t + 7.
-fn eight(w: &[u32; 64], t: usize, v: [u32; 8]) -> [u32; 8]
-    requires { t + 8 ≤ 64 }
-    ensures { (h x : List ℕ) → v ≡ rounds t h x → take (t + 8) w.now ≡ take (t + 8) x → result ≡ rounds (t + 8) h x }
+// The words W_0 .. W_15, which are those of the block, and room for the others.
+fn load(b: &[u8]) -> [u32; 64]
+    requires { length b.now ≡ 64 }
+    ensures { take 16 result ≡ schedule 16 b.now }
 {
-    let v1 = step_at(w, t, v);
-    let v2 = step_at(w, t + 1, v1);
-    let v3 = step_at(w, t + 2, v2);
-    let v4 = step_at(w, t + 3, v3);
-    let v5 = step_at(w, t + 4, v4);
-    let v6 = step_at(w, t + 5, v5);
-    let v7 = step_at(w, t + 6, v6);
-    step_at(w, t + 7, v7)
-}
-
-// The t-th word of a block.
-#[tactic(auto, unfolding(crate::specs::Fips180::M))]
-fn word(b: &[u8], t: usize) -> u32
-    requires { 4 * t + 4 ≤ length b.now }
-    ensures { result ≡ M b.now t }
-{
-    u32::from_be_bytes([b[4 * t], b[4 * t + 1], b[4 * t + 2], b[4 * t + 3]])
+    let mut w = [0u32; 64];
+    for (t, bytes) in b.as_chunks().0.iter().enumerate() {
+        w[t] = u32::from_be_bytes(*bytes);
+    }
+    w
 }
 
 // The word W_t of 6.2.2, 1, for t from 16 on.
@@ -114,23 +87,13 @@ fn next(w: &[u32; 64], t: usize) -> u32
     requires { (16 ≤ t) × (t < 64) }
     ensures { (b : List ℕ) → take t w.now ≡ schedule t b → result ≡ W b (schedule t b) t }
 {
-    lower_one(w[t - 2])
+    lower::<17, 19, 10>(w[t - 2])
         .wrapping_add(w[t - 7])
-        .wrapping_add(lower_zero(w[t - 15]))
+        .wrapping_add(lower::<7, 18, 3>(w[t - 15]))
         .wrapping_add(w[t - 16])
 }
 
-// The words W_t .. W_(t + 7) that are those of the block.
-fn load_eight(w: &mut [u32; 64], b: &[u8], t: usize)
-    requires { (length w.old ≡ 64) × (length b.now ≡ 64) × (t + 8 ≤ 16) }
-    ensures { Filled b.now t w.old w.new }
-{
-    for j in t..t + 8 {
-        w[j] = word(b, j);
-    }
-}
-
-// The words W_t .. W_(t + 7) that follow from earlier ones.
+// The words W_t .. W_(t + 7) that follow from earlier ones of the list. They stand in the same list, so the list and a place are taken.
 fn extend_eight(w: &mut [u32; 64], t: usize)
     requires { (length w.old ≡ 64) × (16 ≤ t) × (t + 8 ≤ 64) }
     ensures { (b : List ℕ) → Filled b t w.old w.new }
@@ -140,32 +103,21 @@ fn extend_eight(w: &mut [u32; 64], t: usize)
     }
 }
 
-// The words W_t .. W_(t + 7).
-fn fill_eight(w: &mut [u32; 64], b: &[u8], t: usize)
-    requires { (length w.old ≡ 64) × (length b.now ≡ 64) × (t % 8 ≡ 0) × (t < 64) }
-    ensures { Filled b.now t w.old w.new }
-{
-    if t < 16 {
-        load_eight(w, b, t);
-    } else {
-        extend_eight(w, t);
-    }
-}
-
-// The 64 turns of 6.2.2, 3, each eight after their words of the schedule.
+// The 64 turns of 6.2.2, 3, each eight after their words of the schedule; the first two eights have the block's words. The block is a
+// slice, as `chunks_exact` gives it to the fold in `sha`.
 #[tactic(auto, unfolding(crate::specs::Fips180::schedule, crate::specs::Fips180::rounds))]
 fn run(b: &[u8], h: [u32; 8]) -> [u32; 8]
     requires { length b.now ≡ 64 }
     ensures { result ≡ rounds 64 h (schedule 64 b.now) }
 {
-    let mut w = [0u32; 64];
+    let mut w = load(b);
     let mut v = h;
     for i in 0..8 {
         let t = 8 * i;
-        fill_eight(&mut w, b, t);
-        // A call's result is not laid in `v` itself: the borrow checker has no rule for an array there.
-        let next = eight(&w, t, v);
-        v = next;
+        if t >= 16 {
+            extend_eight(&mut w, t);
+        }
+        v = turns(&v, &CONSTANTS[t..t + 8], &w[t..t + 8]);
     }
     v
 }
@@ -175,16 +127,7 @@ fn run(b: &[u8], h: [u32; 8]) -> [u32; 8]
 fn add_all(v: [u32; 8], h: [u32; 8]) -> [u32; 8]
     ensures { result ≡ added v h }
 {
-    [
-        v[0].wrapping_add(h[0]),
-        v[1].wrapping_add(h[1]),
-        v[2].wrapping_add(h[2]),
-        v[3].wrapping_add(h[3]),
-        v[4].wrapping_add(h[4]),
-        v[5].wrapping_add(h[5]),
-        v[6].wrapping_add(h[6]),
-        v[7].wrapping_add(h[7]),
-    ]
+    array::from_fn(|i| v[i].wrapping_add(h[i]))
 }
 
 // The hash value after one block more.

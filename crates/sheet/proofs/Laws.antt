@@ -127,12 +127,18 @@ built_then {f} {i} {at} {l = l} {o} b p =
     let front : Puts 0 at (cat i f) l o = record { long = omega (arith, b.long); is = b.is } in
     let w = puts_join (omega arith) front p in (omega (arith, w.long), w.is)
 
+sheet_is : (ns : List ℕ) {i a r t : ℕ} → i ≡ length ns
+    → a ≡ count i (λ j. eqb (get_or ns j 0) 0) → r ≡ count i (λ j. ltb 0 (get_or ns j 0)) → t ≡ i
+    → cat i (line_at ns) ++ (totals (decimal 2 a) (decimal 2 r) (decimal 2 t) ++ 10 ∷ []) ≡ sheet_of ns
+unfolding sheet_of
+sheet_is ns {i} {a} {r} {t} e f g h = rw (f, g, h, e) (sym (append_assoc (cat (length ns) (line_at ns)) _ (10 ∷ [])))
+
 pub sheet_written : (ns : List ℕ) {i at to a r : ℕ} {l o q : List ℕ} → Built (line_at ns) i at l o → i ≡ length ns
     → Puts at to (totals (decimal 2 a) (decimal 2 r) (decimal 2 (a + r)) ++ 10 ∷ []) o q
     → a ≡ accepted_in ns → r ≡ refused_in ns
     → (to ≡ length (sheet_of ns)) × ((q ≡ sheet_of ns ++ drop to l) × ((to ≤ length q) × (to ≡ length (take to q))))
-unfolding sheet_of
-sheet_written ns {i} {at} {to} {a} {r} {l} b e p f g = counted (sheet_of ns) (drop to l) (rw sheet_is at (built_then b p))
-  where
-    sheet_is : cat i (line_at ns) ++ (totals (decimal 2 a) (decimal 2 r) (decimal 2 (a + r)) ++ 10 ∷ []) ≡ sheet_of ns
-    sheet_is = rw (f, g, all_counted ns, e) (sym (append_assoc (cat (length ns) (line_at ns)) _ (10 ∷ [])))
+sheet_written ns {i} {at} {to} {a} {r} {l} b e p f g =
+    let accepted : a ≡ count i (λ j. eqb (get_or ns j 0) 0) = rw (f, e) refl in
+    let refused : r ≡ count i (λ j. ltb 0 (get_or ns j 0)) = rw (g, e) refl in
+    let total : a + r ≡ i = rw (f, g, e) (all_counted ns) in
+    counted (sheet_of ns) (drop to l) (rw (sheet_is ns e accepted refused total) at (built_then b p))

@@ -1,4 +1,6 @@
-// The sheet of a shift (document 02, U1): a line for each run and the numbers of accepted, of refused and of all runs.
+// The sheet of a shift (document 02, U1): a line for each run and the numbers of accepted, of refused and of all runs. Texts stand in the
+// caller's list, since there is no heap; of a struct of that list as `&mut` and a place each contract would also say that the list is still
+// the lent one. Verdicts are numbers, as the sheet is one of any numbers of 32 bits.
 #![tactic(auto)]
 
 ghost use Rattle.std.specs.Prelude.{◌≡◌, List, ◌∷◌, [], ◌++◌, ℕ, ◌+◌, ◌*◌, ◌≤◌, ◌<◌, length, take, drop};
@@ -14,7 +16,13 @@ pub fn name(i: usize) -> [u8; 5]
     requires { i < 100 }
     ensures { result ≡ name_of i }
 {
-    [b'r', b'u', b'n', 48 + (i / 10) as u8, 48 + (i % 10) as u8]
+    [
+        b'r',
+        b'u',
+        b'n',
+        b'0' + (i / 10) as u8,
+        b'0' + (i % 10) as u8,
+    ]
 }
 
 // A text from a place on; returns its end. `write!` would answer an Err that no contract rules out, and a sheet cannot fail.
@@ -59,8 +67,8 @@ fn put_totals(accepted: u32, refused: u32, total: u32, at: usize, out: &mut [u8]
     put_text(b"\n", c, out)
 }
 
-// The sheet of up to 99 runs in front of a list; returns its length. A run's line has 25 bytes at most, with a number of ten digits, and the
-// last line 32. The last clause follows from the others, for callers that take that part of the list.
+// The sheet of up to 99 runs in front of a list; returns its length. A run's line has 25 bytes at most, with a number of ten digits, and
+// the last line 32. The last clause follows from the others, for callers that take that part of the list.
 #[tactic(auto, unfolding(lists::specs::Index::cat))]
 pub fn write(verdicts: &[u32], out: &mut [u8]) -> usize
     requires verdicts_len_bound { length verdicts.now ≤ 99 }
@@ -78,7 +86,8 @@ pub fn write(verdicts: &[u32], out: &mut [u8]) -> usize
     put_totals(accepted, refused, accepted + refused, at, out)
 }
 
-// For the verdicts of up to 99 runs, each number of the sheet's last line is the number of such lines above it; both are read from the text.
+// For the verdicts of up to 99 runs, each number of the sheet's last line is the number of such lines above it; both are read from the
+// text.
 #[tactic(auto, using(crate::proofs::Lines::sheet_counted))]
 pub fn lines_counted()
     ensures { (ns : List ℕ) → length ns ≤ 99 → Counted (sheet_of ns) }

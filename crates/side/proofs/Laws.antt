@@ -15,7 +15,7 @@ use Rattle.protocol.specs.Judge.{reply_size, reply_at, given, κ, kept_view}
 use Rattle.protocol.specs.Accepts.{GoodParts}
 use Rattle.protocol.proofs.Facts.{run_facts}
 use Rattle.key.specs.declared.sizes.Numbers.{Numbers}
-use Rattle.key.specs.Numbers.{key_with, of_with}
+use Rattle.key.specs.Numbers.{Of, key_with, of_with}
 use Rattle.transcript.specs.Replies.{size_kept, reply-within}
 use Rattle.execution.specs.Shown.{Sized}
 use Rattle.execution.specs.Prepared.{Kept, Given, given_of, last_count}
@@ -44,59 +44,73 @@ module _ {k : Numbers} {entries x : List ℕ} {e hid : ℕ} (so : Sound k entrie
   parts : GoodParts K P
   parts = (run_facts K x so.accepted).1
 
-  pub seed-long : {p4 : List ℕ} → P.p4 ≡ p4 → length p4 ≡ 16
-  seed-long is = ap (λ (l : List ℕ). length l) (sym is) ∙ parts.long4
+  -- the parts as slices of the file
+  module _ {Q : Parts} (split : Q ≡ parts_of x) where
+    part_is : (part : Parts → List ℕ) → part P ≡ part Q
+    part_is part = ap part (sym split)
 
-  -- part 7: the seed κ, and the reply
-  module _ {p7 : List ℕ} (is7 : P.p7 ≡ p7) where
-    long7 : 16 + sum k.executions (reply_size K P) ≡ length p7
-    long7 = sym parts.long7 ∙ ap (λ (l : List ℕ). length l) is7
+    pub seed-long : length Q.p4 ≡ 16
+    seed-long = ap length (sym (part_is (λ P. P.p4))) ∙ parts.long4
 
-    pub κ_in : 16 ≤ length p7
+    long7 : 16 + sum k.executions (reply_size K P) ≡ length Q.p7
+    long7 = sym parts.long7 ∙ ap length (part_is (λ P. P.p7))
+
+    pub κ_in : 16 ≤ length Q.p7
     κ_in = omega (arith, long7)
 
-    module _ {at size : ℕ} (here : at ≡ 16 + sum e (reply_size K P)) (wide : size ≡ reply_size K P e) where
-      pub reply_in : at + size ≤ length p7
-      reply_in = omega (arith, here, wide, long7, reply-within K P e k.executions so.within)
+    -- the place and the length of the reply, as `reply_start` and `reply_length` have them
+    module _
+        {at size : ℕ}
+        (start : (K : Key) (P : Parts) → Of k K → P.p2 ≡ Q.p2 → P.p6 ≡ Q.p6 → at ≡ 16 + sum e (reply_size K P))
+        (long : (K : Key) (P : Parts) → Of k K → P.p2 ≡ Q.p2 → P.p6 ≡ Q.p6 → size ≡ reply_size K P e)
+      where
+        here : at ≡ 16 + sum e (reply_size K P)
+        here = start K P (of_with k entries) (part_is (λ P. P.p2)) (part_is (λ P. P.p6))
 
-      reply_slice : reply_at K P e ≡ take (at + size - at) (drop at p7)
-      unfolding reply_at
-      reply_slice =
-          let w : reply_size K P e ≡ at + size - at = omega (arith, wide) in
-          ap (λ (l : List ℕ). part l (16 + sum e (reply_size K P)) (reply_size K P e)) is7
-          ∙ ap₂ (λ (a b : ℕ). take b (drop a p7)) (sym here) w
+        wide : size ≡ reply_size K P e
+        wide = long K P (of_with k entries) (part_is (λ P. P.p2)) (part_is (λ P. P.p6))
 
-      sized : Sized k.modulus.q k.m k.parties K
-      sized = record { modulus = refl; columns = refl; parties = refl }
+        pub reply_in : at + size ≤ length Q.p7
+        reply_in = omega (arith, here, wide, long7, reply-within K P e k.executions so.within)
 
-      deep : depth K ≡ k.depth
-      deep = sym (k.deep.is K refl)
+        reply_slice : reply_at K P e ≡ take (at + size - at) (drop at Q.p7)
+        unfolding reply_at
+        reply_slice =
+            let w : reply_size K P e ≡ at + size - at = omega (arith, wide) in
+            ap (λ (l : List ℕ). part l (16 + sum e (reply_size K P)) (reply_size K P e)) (part_is (λ P. P.p7))
+            ∙ ap₂ (λ (a b : ℕ). take b (drop a Q.p7)) (sym here) w
 
-      pub reply-long : length (take (at + size - at) (drop at p7)) ≡ 16 * k.depth + 32 + 4 * (k.m + 1 + last_count k.m k.parties hid)
-      reply-long =
-          let w : size ≡ 16 * k.depth + 32 + 4 * (k.m + 1 + last_count k.m k.parties hid) =
-          wide ∙ (size_kept K P e so.kept ∙ ap₂ (λ (a b : ℕ). 16 * a + 32 + 4 * b) deep (given_count_lem K P e sized so.hides)) in
-          omega (arith, part_length p7 at (at + size - at) (omega (arith, reply_in)), w)
+        sized : Sized k.modulus.q k.m k.parties K
+        sized = record { modulus = refl; columns = refl; parties = refl }
 
-      pub reply_given : Given k.modulus.q k.m k.parties k.depth hid (take (at + size - at) (drop at p7))
-      unfolding given
-      reply_given =
-          record {
-            below = λ j h.
-                subst (λ (y : ℕ). y < k.modulus.q) (ap₂ (λ (l : List ℕ) (y : ℕ). num (given_of y l) j) reply_slice deep)
-                (parts.below e so.within so.kept j (subst (λ (y : ℕ). j < y) (sym (given_count_lem K P e sized so.hides)) h));
-          }
+        deep : depth K ≡ k.depth
+        deep = sym (k.deep.is K refl)
 
-      pub kept_in : {kappa seed : List ℕ} → kappa ≡ take 16 p7 → P.p4 ≡ seed
-          → KeptIn k.modulus.q k.n k.m k.parties k.depth hid e (take (at + size - at) (drop at p7)) kappa seed entries K P
-      kept_in ek es =
-          record {
-            sized = sized;
-            rows = refl;
-            entry = λ j h. refl;
-            deep = deep;
-            hides = so.hides;
-            at = reply_slice;
-            κ_is = ap (take 16) is7 ∙ sym ek;
-            l_is = es;
-          }
+        pub reply-long : length (take (at + size - at) (drop at Q.p7)) ≡ 16 * k.depth + 32 + 4 * (k.m + 1 + last_count k.m k.parties hid)
+        reply-long =
+            let w : size ≡ 16 * k.depth + 32 + 4 * (k.m + 1 + last_count k.m k.parties hid) =
+            wide ∙ (size_kept K P e so.kept ∙ ap₂ (λ (a b : ℕ). 16 * a + 32 + 4 * b) deep (given_count_lem K P e sized so.hides)) in
+            omega (arith, part_length Q.p7 at (at + size - at) (omega (arith, reply_in)), w)
+
+        pub reply_given : Given k.modulus.q k.m k.parties k.depth hid (take (at + size - at) (drop at Q.p7))
+        unfolding given
+        reply_given =
+            record {
+              below = λ j h.
+                  subst (λ (y : ℕ). y < k.modulus.q) (ap₂ (λ (l : List ℕ) (y : ℕ). num (given_of y l) j) reply_slice deep)
+                  (parts.below e so.within so.kept j (subst (λ (y : ℕ). j < y) (sym (given_count_lem K P e sized so.hides)) h));
+            }
+
+        pub kept_in : {kappa seed : List ℕ} → kappa ≡ take 16 Q.p7 → seed ≡ Q.p4
+            → KeptIn k.modulus.q k.n k.m k.parties k.depth hid e (take (at + size - at) (drop at Q.p7)) kappa seed entries K P
+        kept_in ek es =
+            record {
+              sized = sized;
+              rows = refl;
+              entry = λ j h. refl;
+              deep = deep;
+              hides = so.hides;
+              at = reply_slice;
+              κ_is = ap (take 16) (part_is (λ P. P.p7)) ∙ sym ek;
+              l_is = part_is (λ P. P.p4) ∙ sym es;
+            }

@@ -11,7 +11,8 @@ ghost use Rattle.side.specs.Side.{Sided, Sound};
 use execution::{Dealing, Evaluation, prepare};
 use key::ReadKey;
 
-// The shares and the hash inputs of kept execution e of an accepted file, whose hidden party is given.
+// The shares and the hash inputs of kept execution e of an accepted file, whose hidden party is given. The seeds stand in a list for the
+// most parties, since there is no heap. Other crates deal or open an execution with other functions, so that only this frame is alike.
 pub fn open_side(
     key: ReadKey,
     e: usize,

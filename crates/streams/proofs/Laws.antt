@@ -1,24 +1,17 @@
 -- Laws for the steps of the proofs.
 -- Assumes nothing.
-use Rattle.std.proofs.Common.{◌≡◌, refl, sym, subst, ap, ap₂, ◌∙◌, Bool, true, false, List, [], ◌∷◌, ◌++◌, ℕ, ◌+◌, ◌*◌, ◌-◌, ◌/◌, ◌%◌, ◌^◌, ◌≤◌, ◌<◌, min, arith, lt_of_lt_of_le, length, get_or, take, drop, append-nil, drop_of_length-le}
-use Rattle.std.specs.Int.{w64, w128, to_be_bytes, from_le_bytes}
+use Rattle.std.proofs.Common.{◌≡◌, refl, sym, subst, ap, ap₂, ◌∙◌, Bool, true, false, List, [], ◌++◌, ℕ, ◌+◌, ◌*◌, ◌-◌, ◌/◌, ◌%◌, ◌≤◌, ◌<◌, min, arith, lt_of_lt_of_le, length, get_or, take, drop, append-nil, drop_of_length-le}
+use Rattle.std.specs.Int.{w64, from_le_bytes}
+use Rattle.std.specs.Simd.{first_chunks}
 use Rattle.std.proofs.lemmas.List.{length-append, length-drop, length-take-le, get_or-take, get_or-append-add, get_or-drop, take_at, drop_at}
 use Rattle.std.proofs.Math.ListN.{get_or-append}
 use Rattle.std.proofs.lemmas.Bool.{ltb-true, ltb-false}
 use Rattle.std.proofs.Math.Dec.{ltb}
+use Rattle.lists.proofs.Chains.{chunk_at}
 use Rattle.lists.specs.Tab.{tab, tab-length, tab-at, tab_ext, list_is_tab}
 use Rattle.aes.specs.Fips197.{key_expansion, cipher, aes128}
 use Rattle.aes_wide.specs.Wide.{part, Blocks, counter}
 use Rattle.streams.specs.Streams.{block, word64, number}
-
--- The counter's bytes, as std writes them.
-pub counter_bytes : (j : ℕ) → to_be_bytes w128 j ≡ counter j
-unfolding counter tab
-counter_bytes j =
-    let last : j % 256 ≡ j / 1 % 256 = omega arith in
-    λ z.
-    j / 2 ^ 120 % 256 ∷ j / 2 ^ 112 % 256 ∷ j / 2 ^ 104 % 256 ∷ j / 2 ^ 96 % 256 ∷ j / 2 ^ 88 % 256 ∷ j / 2 ^ 80 % 256 ∷ j / 2 ^ 72 % 256 ∷ j / 2 ^ 64 % 256
-    ∷ j / 2 ^ 56 % 256 ∷ j / 2 ^ 48 % 256 ∷ j / 2 ^ 40 % 256 ∷ j / 2 ^ 32 % 256 ∷ j / 2 ^ 24 % 256 ∷ j / 2 ^ 16 % 256 ∷ j / 2 ^ 8 % 256 ∷ last z ∷ []
 
 -- Two halves of 16 that are written one after the other.
 pub both_halves : (a b x y z : List ℕ) → x ≡ a → y ≡ b → length x ≡ 16 → length z ≡ 16
@@ -32,23 +25,30 @@ part-at : (x : List ℕ) (l p : ℕ) → p < 16 → get_or (part x l) p 0 ≡ ge
 unfolding part
 part-at x l p h = tab-at 16 (λ k. get_or x (16 * l + k) 0) p h
 
-half_at : (x bytes : List ℕ) (l h p b : ℕ) → h < 2 → p < 8 → b ≡ 16 * l + 8 * h → bytes ≡ take 8 (drop b x)
-    → get_or (part x l) (8 * h + p) 0 ≡ get_or bytes p 0
-half_at x bytes l h p b hh hp e is =
+half_at : (x : List ℕ) (l h p b : ℕ) → h < 2 → p < 8 → b ≡ 16 * l + 8 * h → get_or (part x l) (8 * h + p) 0 ≡ get_or (take 8 (drop b x)) p 0
+half_at x l h p b hh hp e =
     let place : 16 * l + (8 * h + p) ≡ b + p = omega arith in
     part-at x l (8 * h + p) (omega arith)
     ∙ ap (λ k. get_or x k 0) place
-    ∙ sym (ap (λ s. get_or s p 0) is ∙ get_or-take 8 (drop b x) p 0 hp ∙ get_or-drop b x p 0)
+    ∙ sym (get_or-take 8 (drop b x) p 0 hp ∙ get_or-drop b x p 0)
 
-pub half_word : (x bytes : List ℕ) (l h b : ℕ) → h < 2 → b ≡ 16 * l + 8 * h → bytes ≡ take 8 (drop b x)
-    → from_le_bytes w64 bytes ≡ word64 (part x l) (8 * h)
+half_word : (x : List ℕ) (l h b : ℕ) → h < 2 → b ≡ 16 * l + 8 * h → from_le_bytes w64 (take 8 (drop b x)) ≡ word64 (part x l) (8 * h)
 unfolding word64
-half_word x bytes l h b hh e is =
-    let at : (p : ℕ) → p < 8 → get_or (part x l) (8 * h + p) 0 ≡ get_or bytes p 0 = λ p hp. half_at x bytes l h p b hh hp e is in
+half_word x l h b hh e =
+    let bytes = take 8 (drop b x) in
+    let at : (p : ℕ) → p < 8 → get_or (part x l) (8 * h + p) 0 ≡ get_or bytes p 0 = λ p hp. half_at x l h p b hh hp e in
     let none : 8 * h ≡ 8 * h + 0 = omega arith in
     let first : get_or (part x l) (8 * h) 0 ≡ get_or bytes 0 0 = ap (λ k. get_or (part x l) k 0) none ∙ at 0 (omega arith) in
     omega
     (arith, first, at 1 (omega arith), at 2 (omega arith), at 3 (omega arith), at 4 (omega arith), at 5 (omega arith), at 6 (omega arith), at 7 (omega arith))
+
+-- Eight bytes are one half of a block.
+pub word_is : (x : List ℕ) {words : List (List ℕ)} (k i : ℕ) → words ≡ first_chunks 8 k x → i < k
+    → from_le_bytes w64 (get_or words i []) ≡ word64 (part x (i / 2)) (8 * (i % 2))
+word_is x k i e h =
+    ap (λ (l : List (List ℕ)). from_le_bytes w64 (get_or l i [])) e
+    ∙ ap (λ (l : List ℕ). from_le_bytes w64 l) (chunk_at 8 k i x h)
+    ∙ half_word x (i / 2) (i % 2) (8 * i) (omega arith) (omega arith)
 
 -- Numbers from the blocks of sixteen counters.
 pub lane-numbers : (w x : List ℕ) (j q n : ℕ) → n ≤ 32 → Blocks x (λ l. cipher w (counter (j + l)))

@@ -10,19 +10,11 @@ ghost use Rattle.streams.specs.Streams.{block, word64, number};
 use numbers::Modulus;
 
 // j as a 16-byte big-endian number.
-#[tactic(auto, using(crate::proofs::Laws::counter_bytes))]
+#[tactic(auto, using(aes_wide::proofs::Laws::counter_bytes))]
 fn counter_block(j: u64) -> [u8; 16]
     ensures { result ≡ counter j }
 {
     u128::from(j).to_be_bytes()
-}
-
-// The bytes of src into an out of the same length.
-pub fn copy(src: &[u8], out: &mut [u8])
-    requires { length src.now ≡ length out.old }
-    ensures { out.new ≡ src.now }
-{
-    out.copy_from_slice(src);
 }
 
 // Block j of a seed.
@@ -46,23 +38,14 @@ pub fn two_blocks(seed: &[u8; 16], j: u64) -> [u8; 32]
     x
 }
 
-// Number i of sixteen blocks one after the other, not yet reduced: two numbers to a block.
-fn word_at(x: &[u8; 256], i: usize) -> u64
-    requires { i < 32 }
-    ensures { result ≡ word64 (part x.now (i / 2)) (8 * (i % 2)) }
-{
-    let b = 8 * i;
-    let bytes: [u8; 8] = x[b..b + 8].try_into().unwrap();
-    u64::from_le_bytes(bytes)
-}
-
-// The numbers of sixteen blocks one after the other, as many as out has room for.
+// The numbers of sixteen blocks one after the other, two numbers to a block, as many as out has room for.
 fn numbers_of(x: &[u8; 256], modulus: Modulus, out: &mut [u32])
     requires { length out.old ≤ 32 }
     ensures { out.new ≡ tab (length out.old) (λ i. word64 (part x.now (i / 2)) (8 * (i % 2)) % modulus.q) }
 {
+    let (words, _) = x.as_chunks::<8>();
     for (i, number) in out.iter_mut().enumerate() {
-        *number = modulus.reduced(word_at(x, i));
+        *number = modulus.reduced(u64::from_le_bytes(words[i]));
     }
 }
 
@@ -77,7 +60,8 @@ fn from_block(w: &[u8; 176], j: u64, modulus: Modulus, out: &mut [u32])
     numbers_of(&x, modulus, out);
 }
 
-// The numbers of a seed from block c on, as many as out has places.
+// The numbers of a seed from block c on, as many as out has places. The turns cut out by place: of what a turn of `chunks_mut` wrote
+// nothing is known when the loan ends.
 pub fn fill(seed: &[u8; 16], c: u64, modulus: Modulus, out: &mut [u32])
     requires c_bound { c < 2 ^ 62 }
     requires out_len_bound { length out.old < 2 ^ 32 }

@@ -1,4 +1,4 @@
-// The seven parts of a transcript's file, lent.
+// The seven parts of a transcript's file, lent. Nothing compares or prints them.
 
 // Document 01, Transcript: the parts, each from its offset on.
 #[derive(Clone, Copy)]

@@ -1,4 +1,5 @@
-// Document 01, Seed tree: all leaves of a seed, the opening that leaves one out, and the leaves of an opening.
+// Document 01, Seed tree: all leaves of a seed, the opening that leaves one out, and the leaves of an opening. A seed is a slice of 16
+// bytes, as it is cut from a list.
 #![tactic(auto)]
 
 ghost use Rattle.std.specs.Prelude.{◌≡◌, ◌++◌, ◌*◌, ◌^◌, ◌<◌, ◌≤◌, length};

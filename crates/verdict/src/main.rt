@@ -1,5 +1,5 @@
 // Judges the files `key` and `run`, of each its first 65536 bytes, and prints one line: `accepted`, or `refused` and the number. A missing
-// file is an empty one.
+// file is an empty one. Lists have the largest size, since there is no heap.
 #![tactic(auto)]
 
 use answer::code::verdict_code;

@@ -1,23 +1,24 @@
 -- From the parts and rows that the code feeds to the hash inputs of document 01.
 -- Assumes nothing.
 use Prim.Native.Nat.{ℕ, zero, suc, ◌+◌, ◌*◌, ◌-◌, ◌%◌, ◌<◌, ◌≤◌}
+use mathlib.Core.Bool.{Bool, true, false}
 use mathlib.Core.Path.{◌≡◌, refl, sym, ◌∙◌, ap, ap₂}
-use mathlib.Core.List.{List, [], ◌++◌}
-use native.Mathlib.Nat.{sub-zero, zero-sub, suc-sub-suc}
+use mathlib.Core.List.{List, [], ◌∷◌, ◌++◌}
 use native.Mathlib.Numerals.{add-one}
 use native.Mathlib.Omega.{arith}
 use native.Mathlib.Decide.{ℕ_discrete}
 use borrow.Author.Tests.{eq-eqb, ne_eqb}
 use lib.Dec.{eqb}
-use lib.ListN.{length, get_or, take, drop, set, replicate, get_or-append}
-use lib.Seq.{get_or-take, get_or-drop, take_at}
+use lib.ListN.{length, get_or, take, drop}
+use lib.Seq.{get_or-take, get_or-drop}
 use Rattle.lists.specs.Tab.{tab, tab-at, tab-length, tab_ext, list_is_tab}
 use Rattle.lists.specs.Index.{pick, cat, part}
 use Rattle.lists.specs.Bytes.{words, nums, num}
 use Rattle.lists.specs.CatLaws.{cat-more, cat_ext, nums_ext, words-tab, part_length}
-use Rattle.lists.specs.Written.{front-more}
 use Rattle.numbers.specs.Mod.{sub}
 use Rattle.numbers.specs.Sum.{sum}
+use Rattle.std.specs.List.{sum_by}
+use Rattle.std.proofs.lemmas.List.Sums.{sum_by-cons}
 use Rattle.numbers.proofs.Sum.{sum_ext}
 use Rattle.sha_core.specs.Fips180.{sha256}
 use Rattle.streams.specs.Streams.{block}
@@ -38,40 +39,25 @@ words-part x a n h =
     ap words (list_is_tab n (part x a n) (λ k. get_or x (a + k) 0) (part_length x a n h) (λ k y. get_or-take n (drop a x) k 0 y ∙ get_or-drop a x k 0))
     ∙ words-tab n (λ k. get_or x (a + k) 0)
 
--- a row: the entries of f, and zeros up to 32
-drop-zeros : (n i : ℕ) → drop {A = ℕ} i (replicate n 0) ≡ replicate (n - i) 0
-drop-zeros n zero = rw (sub-zero n)
-drop-zeros zero (suc i) = rw (zero-sub (suc i))
-drop-zeros (suc n) (suc i) = rw (suc-sub-suc n i) (drop-zeros n i)
+-- a sum with its first term apart
+sum_first : (n : ℕ) (f : ℕ → ℕ) → f 0 + sum n (λ i. f (suc i)) ≡ sum (suc n) f
+unfolding sum
+sum_first zero f = omega arith
+sum_first (suc n) f = let e : f 0 + sum n (λ i. f (suc i)) ≡ sum (suc n) f = sum_first n f in omega arith
 
-pub row_done : (n : ℕ) (f : ℕ → ℕ) {r : List ℕ} → r ≡ tab n f ++ drop {A = ℕ} n (replicate 32 0) → r ≡ tab n f ++ replicate (32 - n) 0
-row_done n f e = e ∙ ap (λ (x : List ℕ). tab n f ++ x) (drop-zeros 32 n)
-
--- the entries in front of a row
-pub front : (n : ℕ) (f : ℕ → ℕ) {r : List ℕ} → r ≡ tab n f ++ replicate (32 - n) 0 → take n r ≡ tab n f
-front n f e = ap (take n) e ∙ take_at (tab n f) (replicate (32 - n) 0) n (tab-length n f)
-
--- their sum
-pub sum-front : (n : ℕ) (f : ℕ → ℕ) {r : List ℕ} → r ≡ tab n f ++ replicate (32 - n) 0 → sum n (λ i. get_or r i 0) ≡ sum n f
-sum-front n f e =
-    sum_ext n
-    (λ i h. ap (λ (x : List ℕ). get_or x i 0) e ∙ (get_or-append (tab n f) (replicate (32 - n) 0) 0 i (rw (tab-length n f) h) ∙ tab-at n f i h))
+-- the sum of a list's entries, as std folds it
+pub sum_list : (xs : List ℕ) → sum_by (λ (x : ℕ). x) xs ≡ sum (length xs) (λ i. get_or xs i 0)
+unfolding sum
+sum_list [] = refl
+sum_list (x ∷ xs) = sum_by-cons (λ (n : ℕ). n) x xs ∙ ap (λ n. x + n) (sum_list xs) ∙ sum_first (length xs) (λ i. get_or (x ∷ xs) i 0)
 
 -- the sum of a list's entries by the rule of the list
 pub sum-tab : (n : ℕ) (xs : List ℕ) (f : ℕ → ℕ) → xs ≡ tab n f → sum (length xs) (λ i. get_or xs i 0) ≡ sum n f
 sum-tab n xs f e = rw (e, tab-length n f) (sum_ext n (λ i h. tab-at n f i h))
 
--- a list is stored in order, in front of what it had
-pub stored : (l l₀ : List ℕ) (k x : ℕ) (f : ℕ → ℕ) → k < length l₀ → l ≡ tab k f ++ drop k l₀ → x ≡ f k → set l k x ≡ tab (k + 1) f ++ drop (k + 1) l₀
-stored l l₀ k x f h e g = rw (e, g) (front-more k f l₀ h)
-
 -- one more item is fed
 pub fed_next : {z a r : Sha} {d : List ℕ} (i : ℕ) (f : ℕ → List ℕ) → Fed z (cat i f) a → Fed a d r → d ≡ f i → Fed z (cat (i + 1) f) r
 fed_next i f p q e = rw (cat-more i f, ← e) (fed_join p q)
-
--- all items are fed, and what follows them
-pub fed_all : {z a : Sha} (i n : ℕ) (f : ℕ → List ℕ) → Fed z (cat i f) a → i ≡ n → Fed z (cat n f) a
-fed_all i n f p e = rw (← e) p
 
 pub fed_last : {z a r : Sha} {d x : List ℕ} (i n : ℕ) (f : ℕ → List ℕ) → Fed z (cat i f) a → i ≡ n → Fed a d r → d ≡ x → Fed z (cat n f ++ x) r
 fed_last i n f p e q g = rw (← e, ← g) (fed_join p q)
@@ -80,20 +66,30 @@ fed_last i n f p e q g = rw (← e, ← g) (fed_join p q)
 next : {x e : ℕ} → x ≡ e → e + 1 ≡ suc x
 next {x} {e} h = omega arith
 
+-- ---- places
+-- a part that lies within a list
+pub within : (x : List ℕ) (at w : ℕ) → at + w ≤ length x → length (take (at + w - at) (drop at x)) ≡ w
+within x at w h =
+    let z : at + w - at ≡ w = omega arith in
+    rw z (part_length x at w h)
+
 -- ---- Γ and h(e)
-pub gamma_last : (m N e : ℕ) (leaves work : List ℕ) (i : ℕ) {seed : List ℕ} → seed ≡ part leaves (16 * i) 16 → i + 1 ≡ N
-    → sha256 (input 3 (e + 1) (i + 1) (seed ++ words (take (3 * m * i + m + m - (3 * m * i + m)) (drop (3 * m * i + m) work)) ++ block seed 0))
+pub h_label : (e : ℕ) (x : List ℕ) → x ≡ input 2 e 0 x
+unfolding input
+h_label e x = refl
+
+pub gamma_is_open : (m N e : ℕ) (leaves work : List ℕ) (i : ℕ) {count : ℕ} {seed r : List ℕ} → seed ≡ part leaves (16 * i) 16 → count ≡ pick (eqb (suc i) N) m 0
+    → r ≡ block seed 0
+    → sha256 (input 3 (e + 1) (i + 1) (seed ++ words (take (3 * m * i + m + count - (3 * m * i + m)) (drop (3 * m * i + m) work)) ++ r))
     ≡ gamma_open m N e leaves work i
 unfolding gamma_open
-gamma_last m N e leaves work i is h =
-    let y : 3 * m * i + m + m - (3 * m * i + m) ≡ m = omega arith in
-    let z : suc i ≡ N = omega arith in
-    rw (is, y, eq-eqb (suc i) N z)
-
-pub gamma_other : (m N e : ℕ) (leaves work : List ℕ) (i : ℕ) {seed : List ℕ} → seed ≡ part leaves (16 * i) 16 → (i + 1 ≡ N → ⊥)
-    → sha256 (input 3 (e + 1) (i + 1) (seed ++ words [] ++ block seed 0)) ≡ gamma_open m N e leaves work i
-unfolding gamma_open
-gamma_other m N e leaves work i is h = rw (is, ne_eqb (suc i) N (λ z. h (omega arith)))
+gamma_is_open m N e leaves work i {count} is few last =
+    let y : 3 * m * i + m + count - (3 * m * i + m) ≡ count = omega arith in
+    rw (last, is, y, few, some (eqb (suc i) N)) refl
+  where
+    some : (t : Bool) → take (pick t m 0) (drop (3 * m * i + m) work) ≡ pick t (part work (3 * m * i + m) m) []
+    some true = refl
+    some false = refl
 
 pub gamma_hidden : (m N hid e : ℕ) (given leaves work : List ℕ) (i : ℕ) → i ≡ hid → given ≡ gamma_at m N hid e given leaves work i
 unfolding gamma_at
@@ -141,12 +137,18 @@ module _ {m N hid e : ℕ} {given leaves work : List ℕ} {K : Key} {v : View} (
       (cat_ext N (λ i h. gamma_is i h) ∙ ap (λ n. cat n (Γ K v)) (sym so.parties))
 
 -- ---- Ω
-pub omega_is : {m N e : ℕ} {leaves work seed : List ℕ} {K : Key} {v : View} → ForΩ m N e leaves work K v → 1 ≤ N → 3 * m * N ≤ length work
-    → seed ≡ part leaves (16 * (N - 1)) 16
-    → input 4 (e + 1) N (words (take (3 * m * (N - 1) + 2 * m + m - (3 * m * (N - 1) + 2 * m)) (drop (3 * m * (N - 1) + 2 * m) work)) ++ block seed 1) ≡ Ωin K v
-unfolding Ωin
-omega_is {m} {N} {e} {leaves} {work} {seed} {K} {v} so least long is =
+pub omega_written : (m N e : ℕ) {seed : List ℕ} (leaves work : List ℕ) → seed ≡ part leaves (16 * (N - 1)) 16
+    → words (take (3 * m * (N - 1) + 2 * m + m - (3 * m * (N - 1) + 2 * m)) (drop (3 * m * (N - 1) + 2 * m) work)) ++ block seed 1
+    ≡ input 4 (e + 1) N (words (part work (3 * m * (N - 1) + 2 * m) m) ++ block (part leaves (16 * (N - 1)) 16) 1)
+unfolding input
+omega_written m N e leaves work is =
     let y : 3 * m * (N - 1) + 2 * m + m - (3 * m * (N - 1) + 2 * m) ≡ m = omega arith in
+    rw (is, y) refl
+
+pub omega_is : {m N e : ℕ} {leaves work : List ℕ} {K : Key} {v : View} → ForΩ m N e leaves work K v → 1 ≤ N → 3 * m * N ≤ length work
+    → input 4 (e + 1) N (words (part work (3 * m * (N - 1) + 2 * m) m) ++ block (part leaves (16 * (N - 1)) 16) 1) ≡ Ωin K v
+unfolding Ωin
+omega_is {m} {N} {e} {leaves} {work} {K} {v} so least long =
     let room : 3 * m * (N - 1) + 3 * m ≤ 3 * m * N = inside m N (N - 1) (omega arith) in
     let numbers : words (part work (3 * m * (N - 1) + 2 * m) m) ≡ nums m v.s_n =
     words-part work (3 * m * (N - 1) + 2 * m) m (omega arith)
@@ -154,17 +156,17 @@ omega_is {m} {N} {e} {leaves} {work} {seed} {K} {v} so least long is =
     (λ k h.
     let w : 3 * m * (N - 1) + 2 * m + k ≡ 3 * m * (N - 1) + (2 * m + k) = omega arith in
     ap (λ n. get_or work n 0) w ∙ sym (so.s_n k h)) in
-    rw (so.ex, so.parties, so.columns, add-one e, is, y, numbers, so.seed)
+    rw (so.ex, so.parties, so.columns, add-one e, numbers, so.seed)
 
 -- ---- α, Π and the sums of α
 pub alpha_hidden : (q m hid : ℕ) (given work : List ℕ) (k i : ℕ) → i ≡ hid → num given k ≡ alpha_at q m hid given work k i
 unfolding alpha_at
 alpha_hidden q m hid given work k i e = rw (eq-eqb i hid e)
 
-pub alpha_open : (q m hid : ℕ) (given work : List ℕ) (k i : ℕ) → (i ≡ hid → ⊥)
-    → sub q (get_or work (3 * m * i + (2 * m + k)) 0) (get_or work (3 * m * i + k) 0) ≡ alpha_at q m hid given work k i
+pub alpha_shown : (q m hid : ℕ) (given work : List ℕ) (k i : ℕ) → (i ≡ hid → ⊥)
+    → sub q (get_or work (place_of m i (2 * m + k)) 0) (get_or work (place_of m i k) 0) ≡ alpha_at q m hid given work k i
 unfolding alpha_at
-alpha_open q m hid given work k i e = rw (ne_eqb i hid e)
+alpha_shown q m hid given work k i e = rw (ne_eqb i hid e)
 
 module _ {q m N hid e : ℕ} {given work : List ℕ} {K : Key} {v : View} (so : ForΠ q m N hid e given work K v) where
   pub alpha_is : (k i : ℕ) → k < m → i < N → alpha_at q m hid given work k i ≡ α K v k i

@@ -11,7 +11,8 @@ use crate::answers;
 use execution::commit;
 use numbers::Modulus;
 
-// Ψ: the outputs o(1) .. o(N) and block 2e + 1 of the seed κ.
+// Ψ: the outputs o(1) .. o(N) and block 2e + 1 of the seed κ. They are fed, as the list may have any length; `execution_inputs` writes
+// those of N parties. The kind is document 01's number of this hash, as at `begin`.
 #[tactic(auto, using(sha::specs::State::fed_join))]
 pub fn psi_of(execution: usize, outs: &[u32], kappa: &[u8; 16]) -> [u8; 32]
     requires { execution < 32 }
@@ -28,5 +29,5 @@ pub fn sum_is_zero(modulus: Modulus, outs: &[u32]) -> bool
     requires { length outs.now ≤ 32 }
     ensures { result ≡ eqb (sum (length outs.now) (λ i. get_or outs.now i 0) % modulus.q) 0 }
 {
-    modulus.reduced(answers::total(outs, outs.len())) == 0
+    modulus.reduced(answers::total(outs)) == 0
 }

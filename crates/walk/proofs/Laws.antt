@@ -119,9 +119,6 @@ module _ {q n m N M τ D : ℕ} {entries p2 p3 p4 p6 p7 : List ℕ} {K : Key} {P
       kept_p : opened P.p2 e ≡ false
       kept_p = ap (λ (x : List ℕ). opened x e) so.second ∙ t
 
-      pub tests_kept : first (execution_checks K P e) ≡ first (checks_at K P e)
-      tests_kept = sym (ap first (pick_false (opened P.p2 e) [] (execution_checks K P e) kept_p))
-
       pub rank_most : r ≤ e
       unfolding rank
       rank_most = omega (arith, here.rank_is, count-le e (opened P.p2))
@@ -138,10 +135,13 @@ module _ {q n m N M τ D : ℕ} {entries p2 p3 p4 p6 p7 : List ℕ} {K : Key} {P
           subst (λ (x : ℕ). 1 ≤ x) (ap₂ (λ (x : List ℕ) (y : ℕ). get_or x y 0) so.sixth place_is)
           (leb-true _ _ (every-at (length P.p6) (λ j. leb 1 (get_or P.p6 j 0)) (holds-each _ good_hidden_lem).1.0 (place P.p2 e) place_listed))
 
-      module _ {hid : ℕ} (is : hid ≡ get_or p6 (e - r) 0 - 1) where
+      module _ {named : ℕ} (is : named ≡ get_or p6 (e - r) 0) where
+        abbrev hid : ℕ
+        hid = named - 1
+
         hides : hidden K P e ≡ hid
         unfolding hidden hidden_of
-        hides = ap₂ (λ (x : List ℕ) (y : ℕ). get_or x y 0 - 1) so.sixth place_is ∙ sym is
+        hides = ap₂ (λ (x : List ℕ) (y : ℕ). get_or x y 0 - 1) so.sixth place_is ∙ sym (ap (λ (x : ℕ). x - 1) is)
 
         pub hid_below : hid < N
         unfolding hidden
@@ -151,7 +151,10 @@ module _ {q n m N M τ D : ℕ} {entries p2 p3 p4 p6 p7 : List ℕ} {K : Key} {P
         size_is =
             size_kept K P e kept_p ∙ ap₂ (λ (x y : ℕ). 16 * x + 32 + 4 * y) so.deep (given_count_lem K P e so.sized hides)
 
-        module _ {end : ℕ} (ends : end ≡ at + (16 * D + 32 + 4 * (m + 1 + last_count m N hid))) where
+        module _ {size : ℕ} (long : size ≡ 16 * D + 32 + 4 * (m + 1 + last_count m N hid)) where
+          abbrev end : ℕ
+          end = at + size
+
           pub end_inside : end ≤ length p7
           end_inside =
               subst (λ (x : List ℕ). end ≤ length x) so.seventh
@@ -170,7 +173,7 @@ module _ {q n m N M τ D : ℕ} {entries p2 p3 p4 p6 p7 : List ℕ} {K : Key} {P
               (sym (pick_false (opened P.p2 e) true (every (given_count K P e) (λ j. ltb (given K P e j) K.q)) kept_p)
               ∙ every-at K.M (λ e. pick (opened P.p2 e) true (every (given_count K P e) (λ j. ltb (given K P e j) K.q))) good-numbers e inside)
 
-          pub kept_in : {kappa seed : List ℕ} → kappa ≡ take 16 p7 → seed ≡ p4 → KeptIn q n m N D hid e (take (end - at) (drop at p7)) kappa seed entries K P
+          kept_in : {kappa seed : List ℕ} → kappa ≡ take 16 p7 → seed ≡ p4 → KeptIn q n m N D hid e (take (end - at) (drop at p7)) kappa seed entries K P
           kept_in ek es =
               record {
                 sized = so.sized;
@@ -195,8 +198,12 @@ module _ {q n m N M τ D : ℕ} {entries p2 p3 p4 p6 p7 : List ℕ} {K : Key} {P
               ∙ (ap₂ (λ (x y : ℕ). part p3 (16 * x + 32 * y) 32) (sym so.openings) (sym place_is)
               ∙ ap (λ (x : List ℕ). part x (16 * K.τ + 32 * place P.p2 e) 32) (sym so.third))
 
-          module _ {h om pi psi : List ℕ} {zero good : Bool} (ev : Evaluates K P e h om pi psi zero)
+          module _ {kappa seed h om pi psi : List ℕ} {zero good : Bool} (ek : kappa ≡ take 16 p7) (el : seed ≡ p4)
+              (f : KeptIn q n m N D hid e (take (end - at) (drop at p7)) kappa seed entries K P → Evaluates K P e h om pi psi zero)
               (g : good ≡ pick (eqb (suc hid) N) true (same (take (16 * τ + 32 * (e - r) + 32 - (16 * τ + 32 * (e - r))) (drop (16 * τ + 32 * (e - r)) p3)) om)) where
+            ev : Evaluates K P e h om pi psi zero
+            ev = f (kept_in ek el)
+
             good_is : good ≡ pick (eqb (suc (hidden K P e)) K.N) true (same (Ω_at K P e) (sha256 (Ωin K (kept_view K P e))))
             good_is =
                 g
@@ -228,7 +235,7 @@ module _ {q n m N M τ D : ℕ} {entries p2 p3 p4 p6 p7 : List ℕ} {K : Key} {P
                 record {
                   next = record {
                     rank_is = count_miss e (opened P.p2) kept_p ∙ here.rank_is;
-                    at_is = sym (ends ∙ at-kept K P e at (16 * D + 32 + 4 * (m + 1 + last_count m N hid)) (sym here.at_is) (sym size_is));
+                    at_is = sym (ap (λ (x : ℕ). at + x) long ∙ at-kept K P e at (16 * D + 32 + 4 * (m + 1 + last_count m N hid)) (sym here.at_is) (sym size_is));
                   };
                   stored = subst (λ (l : List ℕ). Stored K.M (kept_count K) e (place P.p2 e) (opened P.p2 e) (hash_at K P e) (Π_at K P e) (Ψ_at K P e) x l) (sym is) both.0;
                   lists_are = is ∙ both.1;

@@ -1,6 +1,6 @@
 // One execution of a transcript whose form is good: its refusal, its digests into the lists, and where the next one stands.
 
-ghost use Rattle.std.specs.Prelude.{◌≡◌, true, false, suc, ◌+◌, ◌*◌, ◌-◌, ◌<◌, ◌≤◌, eqb, length, get_or, IfOk, OnErr};
+ghost use Rattle.std.specs.Prelude.{◌≡◌, true, false, suc, ◌+◌, ◌*◌, ◌-◌, ◌<◌, ◌≤◌, eqb, length, IfOk, OnErr};
 ghost use Rattle.lists.specs.Index.{pick, same};
 ghost use Rattle.lists.specs.Check.{first};
 ghost use Rattle.refusals.specs.Refused.{verdict_of};
@@ -13,31 +13,24 @@ ghost use Rattle.walk.specs.Walk.{Reached, Stepped, checks_at, kept_tests, put};
 ghost use Rattle.walk.specs.Runs.{Stands};
 
 use crate::Run;
-use execution::{Dealing, prepare};
+use execution::{Dealing, Statement, prepare};
 use refusals::Refusal;
 
-// Where an execution stands: how many before it are opened, and where its reply begins in part 7.
-#[derive(Clone, Copy)]
+// Where an execution stands: how many before it are opened, and where its reply begins in part 7. It goes in, and where the next one stands
+// comes out: only a turn knows how long its reply is.
+#[derive(Clone, Copy, Debug, PartialEq, Eq)]
 pub struct Place {
     pub rank: usize,
     pub at: usize,
 }
 
-// A digest to its place in the lists.
+// A digest to its place in the lists, which are taken whole: the clause says that the rest of them stays.
 fn put_digest(digest: &[u8; 32], at: usize, lists: &mut [u8])
     requires { at + 32 ≤ length lists.old }
     ensures put { lists.new ≡ put lists.old at 32 digest.now }
     ensures lists_len_unchanged { length lists.new ≡ length lists.old }
 {
     lists[at..at + 32].copy_from_slice(digest);
-}
-
-// The hidden party, counted from 0, of the kept execution at a place.
-fn hidden_party(hidden: &[u8], place: usize) -> usize
-    requires { 1 ≤ get_or hidden.now place 0 }
-    ensures { result ≡ get_or hidden.now place 0 - 1 }
-{
-    transcript::hidden_at(hidden, place) - 1
 }
 
 // Ω is the given one, or party N is hidden.
@@ -73,23 +66,24 @@ fn opened_round(run: Run, e: usize, here: Place, lists: &mut [u8], work: &mut [u
     ensures lists_len_unchanged { length lists.new ≡ length lists.old }
     ensures work_len_unchanged { length work.new ≡ length work.old }
 {
-    let statement = run.statement;
+    let Statement {
+        modulus,
+        m,
+        parties,
+        depth,
+        ..
+    } = run.statement;
     let dealing = Dealing {
-        modulus: statement.modulus,
-        m: statement.m,
-        parties: statement.parties,
-        depth: statement.depth,
+        modulus,
+        m,
+        parties,
+        depth,
     };
     let from = 16 * here.rank;
     let master = run.parts.p3[from..from + 16].try_into().unwrap();
+    // No heap: room for the seeds of the most parties.
     let mut leaves = [0; 512];
-    let h = views::opened::opened_hash(
-        dealing,
-        e,
-        master,
-        &mut leaves[..16 * statement.parties],
-        work,
-    );
+    let h = views::opened::opened_hash(dealing, e, master, &mut leaves[..16 * parties], work);
     put_digest(&h, 32 * e, lists);
     Place {
         rank: here.rank + 1,
@@ -119,11 +113,12 @@ fn kept_round(
     let statement = run.statement;
     let parties = statement.parties;
     let place = e - here.rank;
-    let hidden = hidden_party(run.parts.p6, place);
+    let hidden = transcript::hidden_at(run.parts.p6, place) - 1;
     let end = here.at + prepare::reply_length(statement.m, parties, statement.depth, hidden);
     let p7 = run.parts.p7;
     let kappa = p7.first_chunk().unwrap();
     let seed = run.parts.p4.try_into().unwrap();
+    // No heap: room for the seeds of the most parties.
     let mut leaves = [0; 512];
     let v = kept::kept_execution(
         statement,
@@ -148,7 +143,7 @@ fn kept_round(
     })
 }
 
-// Execution e.
+// Execution e: E, read at run time, says which step it is.
 pub fn round(
     run: Run,
     e: usize,

@@ -5,11 +5,12 @@ use Rattle.std.specs.Prelude.{Err}
 use Rattle.lists.specs.Index.{same}
 use Rattle.protocol.specs.Transcript.{Parts}
 use Rattle.protocol.specs.Pair.{same_front}
+use Rattle.protocol.proofs.Demand3.{is_accepted_lem}
 use Rattle.refusals.specs.declared.Refusal.TheVariants.{FirstRun, SecondRun}
 use Rattle.refusals.specs.Refused.{verdict_of}
 use Rattle.key.specs.Numbers.{key_with, of_with}
 use Rattle.fork.specs.Fork.{accepted_headed}
-use Rattle.accepted.proofs.Laws.{accepted_by, run_accepted, first_refused, second_kept, second_lists_lem, second_refused, fronts_differ, hidden_equal, forks}
+use Rattle.accepted.proofs.Laws.{accepted_by, first_refused, second_kept, second_lists_lem, second_refused, fronts_differ, hidden_equal, forks}
 use Rattle.accepted.proofs.check.Goals as goal
 
 pub returns-in_err-map_err-clause-verdict : goal.returns-in_err-map_err-clause-verdict
@@ -32,11 +33,11 @@ returns-in_err-map_err-2-clause-lists2_after c =
 
 pub split-parts1-requires : goal.split-parts1-requires
 split-parts1-requires c =
-    (accepted_headed _ (key_with c.args.key.numbers c.args.key.entries.now) c.args.run1.now (of_with _ c.args.key.entries.now) (run_accepted _ (accepted_by _ c.judge_run.ensures.verdict c.in_ok-map_err.ensures.variant))).good
+    (accepted_headed _ (key_with c.args.key.numbers c.args.key.entries.now) c.args.run1.now (of_with _ c.args.key.entries.now) (is_accepted_lem _ (accepted_by _ c.judge_run.ensures.verdict c.in_ok-map_err.ensures.variant))).good
 
 pub split-parts2-requires : goal.split-parts2-requires
 split-parts2-requires c =
-    (accepted_headed _ (key_with c.args.key.numbers c.args.key.entries.now) c.args.run2.now (of_with _ c.args.key.entries.now) (run_accepted _ (accepted_by _ c.judge_run-2.ensures.verdict c.in_ok-map_err-2.ensures.variant))).good
+    (accepted_headed _ (key_with c.args.key.numbers c.args.key.entries.now) c.args.run2.now (of_with _ c.args.key.entries.now) (is_accepted_lem _ (accepted_by _ c.judge_run-2.ensures.verdict c.in_ok-map_err-2.ensures.variant))).good
 
 pub returns-then-not-same_front-clause-verdict : goal.returns-then-not-same_front-clause-verdict
 returns-then-not-same_front-clause-verdict c =

@@ -14,13 +14,17 @@ loop-c-preserved c =
     c.sub-b.ensures
     c.sub-d.ensures
     c.sub-e.ensures in
-    let next : 4 * i + 1 + 1 + 1 + 1 ≡ 4 * (i + 1) = omega arith in
+    let two : 4 * i + 1 + 1 ≡ 4 * i + 2 = omega arith in
+    let three : 4 * i + 2 + 1 ≡ 4 * i + 3 = omega arith in
+    let next : 4 * i + 3 + 1 ≡ 4 * (i + 1) = omega arith in
     counted next
     (more
+    (counted three
     (more
-    (more (more c.loop-c.invariant (omega arith) (rw (c.mix.ensures ∙ col.first))) (omega arith) (rw (c.mix-in-loop-c.ensures ∙ col.second)))
+    (counted two
+    (more (more c.loop-c.invariant (omega arith) (rw (c.mix.ensures ∙ col.first))) (omega arith) (rw (c.mix-in-loop-c.ensures ∙ col.second))))
     (omega arith)
-    (rw (c.mix-in-loop-c-2.ensures ∙ col.third)))
+    (rw (c.mix-in-loop-c-2.ensures ∙ col.third))))
     (omega arith)
     (rw (c.mix-in-loop-c-3.ensures ∙ col.fourth)))
 

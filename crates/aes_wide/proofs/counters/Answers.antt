@@ -1,11 +1,12 @@
-use Rattle.std.proofs.Common.{◌+◌, ◌∙◌}
-use Rattle.aes_wide.proofs.Laws.{row_more, rows_end, counter_size, counter_at}
+use Rattle.std.proofs.Common.{◌+◌, ◌∙◌, ap, slice_index_or}
+use Rattle.std.specs.Int.{to_be_bytes, w128}
+use Rattle.aes_wide.proofs.Laws.{strand_more, strands_end, counter_bytes, counter_size}
 use Rattle.aes_wide.proofs.counters.Goals as goal
 
-pub loop-l-preserved : goal.loop-l-preserved
-loop-l-preserved c =
-    row_more c.loop-l.invariant c.loop-p-test.true c.loop-l-test.true
-    (c.counter_byte.ensures ∙ counter_at (c.args.j + c.loop-l.l) c.loop-p.p c.loop-p-test.true)
+pub loop-p-preserved : goal.loop-p-preserved
+loop-p-preserved c =
+    strand_more c.loop-p.invariant c.loop-l-test.true c.loop-p-test.true
+    (ap (λ b. slice_index_or b c.loop-p.p 0) (c.to_be_bytes.ensures ∙ ap (to_be_bytes w128) c.from.ensures ∙ counter_bytes (c.args.j + c.loop-l.l)))
 
 pub returns : goal.returns
-returns c = rows_end c.loop-p.invariant c.loop-p-test.false (λ b. counter_size (c.args.j + b))
+returns c = strands_end c.loop-l.invariant c.loop-l-test.false (λ b. counter_size (c.args.j + b))

@@ -1,6 +1,6 @@
 -- `pi_input`: the rows below k are written, and their sums stand in front. Assumes nothing.
-use Rattle.std.specs.Prelude.{◌≡◌, ◌++◌, ◌*◌, ◌%◌, drop}
-use Rattle.lists.specs.Tab.{tab}
+use Rattle.std.specs.Prelude.{◌*◌, ◌%◌}
+use Rattle.lists.specs.Tab.{Filling}
 use Rattle.lists.specs.Bytes.{nums}
 use Rattle.lists.specs.Written.{Built}
 use Rattle.numbers.specs.Sum.{sum}
@@ -12,5 +12,5 @@ invariant-loop-k l =
     let s = l.shares in
     record {
       rows : Built (λ j. nums s.parties (alpha_at s.modulus.q s.m s.hidden l.given s.work.now j)) l.k (l.width * l.k) l.initial.rows l.rows;
-      columns : l.sums ≡ tab l.k (λ j. sum s.parties (alpha_at s.modulus.q s.m s.hidden l.given s.work.now j) % s.modulus.q) ++ drop l.k l.initial.sums;
+      columns : Filling s.m l.sums l.k (λ j. sum s.parties (alpha_at s.modulus.q s.m s.hidden l.given s.work.now j) % s.modulus.q);
     }

@@ -1,28 +1,24 @@
 -- `open_sum` meets its contract. Assumes nothing.
-use Rattle.std.proofs.Common.{◌+◌, ◌*◌, refl, sym, arith, ◌∙◌}
+use Rattle.std.proofs.Common.{◌+◌, arith, sym, ◌∙◌, ◌≡◌}
 use Rattle.numbers.specs.Sum.{sum}
-use Rattle.execution.proofs.Laws.{sum_step}
-use Rattle.joined.proofs.Laws.{open_hidden, open_shown, sum-same, open_all}
+use Rattle.joined.specs.Joined.{open_at}
+use Rattle.joined.proofs.Laws.{none_hidden, one_hidden, open_all}
 use Rattle.joined.proofs.open_sum.Goals as goal
-use Rattle.joined.proofs.open_sum.Goals.{then-i-hidden, else-i-hidden}
 
-pub loop-i-init : goal.loop-i-init
-unfolding sum
-loop-i-init c = record { is = refl; low = omega arith }
+pub returns-then-hidden-parties : goal.returns-then-hidden-parties
+returns-then-hidden-parties c =
+    let a = c.args in
+    open_all _ _ _ _ _ _ _ a.work.now (c.column-all.ensures ∙ sym (none_hidden a.sharing.m a.hidden a.work.now a.j a.sharing.parties c.if-hidden-parties.true)) c.reduced.ensures
 
-pub loop-i-preserved : goal.loop-i-preserved
-loop-i-preserved c = elim c.if-i-hidden.branch [
-  | then-i-hidden w ↦
-      record {
-        is = w.total-is ∙ sum_step _ _ _ _ c.loop-i.invariant.is (w.from-total.ensures ∙ open_shown c.args.sharing.m c.args.hidden c.args.work.now c.args.j c.loop-i.i w.if-i-hidden.true);
-        low = omega (arith, c.loop-i.invariant.low, w.total-is, w.from-total.ensures, c.type_inv.work (3 * c.args.sharing.m * c.loop-i.i + c.args.j));
-      }
-  | else-i-hidden w ↦
-      record {
-        is = w.total-is ∙ sum-same _ c.loop-i.invariant.is (sym (open_hidden c.args.sharing.m c.args.hidden c.args.work.now c.args.j c.loop-i.i w.if-i-hidden.false));
-        low = omega (arith, c.loop-i.invariant.low, w.total-is);
-      }
-]
+pub overflow_sub-all : goal.overflow_sub-all
+overflow_sub-all c =
+    let a = c.args in
+    omega (arith, c.column-all.ensures, c.from.ensures, one_hidden a.sharing.m a.hidden a.work.now a.j a.sharing.parties (omega (arith, c.if-hidden-parties.false)))
 
 pub returns : goal.returns
-returns c = open_all _ _ _ _ _ _ _ _ c.args.work.now c.loop-i.invariant.is (omega arith) c.reduced.ensures
+returns c =
+    let a = c.args in
+    let shown : sum a.sharing.parties (open_at a.sharing.m a.hidden a.work.now a.j) + c.from.result ≡ c.column-all.result =
+    omega (arith, c.column-all.ensures, c.from.ensures, one_hidden a.sharing.m a.hidden a.work.now a.j a.sharing.parties (omega (arith, c.if-hidden-parties.false)))
+    in
+    open_all _ _ _ _ _ _ _ a.work.now (omega (arith, shown)) c.reduced-2.ensures

@@ -13,9 +13,9 @@ take-put_mid_part a k n xs ys within fits =
     ∙ take-append-add (take a xs) (ys ++ post_of a k xs) n
     ∙ ap (λ l. take a xs ++ l) (take-append-le n ys (post_of a k xs) fits)
 
-pub loop-done-preserved : goal.loop-done-preserved
-loop-done-preserved g c =
-    let inv = c.loop-done.invariant in
-    let read = c.read_some-n in
-    let joined = take-put_mid_part c.loop-done.done (length c.loop-done.out - c.loop-done.done) read.result c.loop-done.out read.new.out inv.1 read.ensures.in_bounds.0 in
-    (search rules, search rules, subst (Consumes _ _) (sym joined) (Consumes-trans _ _ _ _ _ inv.2 read.ensures.bytes))
+pub loop-n-preserved : goal.loop-n-preserved
+loop-n-preserved g c =
+    let inv = c.loop-n.invariant in
+    let fits : c.in-Ok.n ≤ length c.read.new.buf = search rules in
+    let joined = take-put_mid_part c.loop-n.done (length c.loop-n.out - c.loop-n.done) c.in-Ok.n c.loop-n.out c.read.new.buf inv.1 fits in
+    (search rules, search rules, subst (Consumes _ _) (sym joined) (Consumes-trans _ _ _ _ _ inv.2 c.in-Ok.ensures.bytes.0))

@@ -8,7 +8,7 @@ loop-x-init c = (refl, h_none _ _ _ _ _ _)
 pub loop-x-preserved : goal.loop-x-preserved
 loop-x-preserved c =
     let l = c.loop-x in
-    let h = c.opened_hash-h.ensures in
+    let h = c.opened_hash.ensures in
     (search rules, h_more _ l.invariant.1 (rw c.master.ensures at h.opened_hash) c.update.ensures)
 
 pub returns : goal.returns

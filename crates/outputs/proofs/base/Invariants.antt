@@ -9,4 +9,4 @@ use Rattle.outputs.proofs.base.Given as goal
 abbrev pub invariant-loop-l : goal.invariant-loop-l
 invariant-loop-l l =
     let e = l.evaluation in
-    Residue e.modulus.q (sum l.l (λ j. at l.coefficients j * (target e.n e.m e.entries.now j * inverse_of e.modulus.q e.parties)) % e.modulus.q) l.acc
+    Residue e.modulus.q (sum l.l (λ j. at l.betas j * (target e.n e.m e.entries.now j * inverse_of e.modulus.q e.parties)) % e.modulus.q) l.acc

@@ -6,4 +6,4 @@ use Rattle.outputs.proofs.Laws.{Split}
 use Rattle.outputs.proofs.weight.Given as goal
 
 abbrev pub invariant-loop-l : goal.invariant-loop-l
-invariant-loop-l l = Split (sum l.l (λ j. at l.coefficients j * cell l.evaluation.m l.evaluation.entries.now j l.k)) l.l l.sum.lo l.sum.hi
+invariant-loop-l l = Split (sum l.l (λ j. at l.betas j * cell l.evaluation.m l.evaluation.entries.now j l.k)) l.l l.sum.lo l.sum.hi

@@ -1,18 +1,14 @@
-use Rattle.std.proofs.Common.{◌≡◌, List, ℕ, ◌++◌, length, ap, sym, ◌∙◌, append_assoc, length-append, arith}
-use Rattle.sha.proofs.Laws.{block_more}
+-- The fold over the blocks is the standard's, whatever whole blocks came before. Assumes nothing.
+use Rattle.std.proofs.Common.{◌∙◌, ◌/◌, ◌++◌, length, ap, sym, rules, arith}
+use Rattle.sha_core.specs.Fips180.{absorb}
+use Rattle.sha.proofs.Laws.{blocks_folded, all_taken}
 use Rattle.sha.proofs.blocks.Goals as goal
 
-pub loop-block-preserved : goal.loop-block-preserved
-loop-block-preserved c =
-    let inv = c.loop-block.invariant in
-    let steps = c.in-Some.ensures.steps in
-    let x : List ℕ = c.in-Some.block.now in
-    let long : length x ≡ 64 = steps.1.1 ∙ inv.0 in (
-      steps.0 ∙ inv.0,
-      omega (arith, inv.1, long, ap (λ (l : List ℕ). length l) steps.1.0, length-append x c.next.new.self.rest.now),
-      λ m h e.
-          let before = inv.2 m h e in
-          let p = before.0 in
-          let next = block_more p x _ _ before.2 long before.3 c.compress_block-next.ensures in
-          (p ++ x, before.1 ∙ ap (λ (l : List ℕ). p ++ l) steps.1.0 ∙ sym (append_assoc p x _), next.0, next.1),
-    )
+pub returns : goal.returns
+returns c m h e =
+    let ran = c.fold.ensures.ran in
+    let end = ran.2.1 in
+    let found =
+    blocks_folded _ _ ran.0 c.chunks_exact.result _ m _ _ c.chunks_exact.ensures.size h (search rules) e end.1 ran.3 (λ a x b k. search rules) in
+    let all = all_taken (m ++ c.args.d.now) found.0 _ (ap (λ l. m ++ l) (sym c.chunks_exact.ensures.rest) ∙ found.1) (omega (arith, found.2, end.2.1.0)) found.3 in
+    found.4 ∙ ap (λ p. absorb (length p / 64) p) all

@@ -1,10 +1,10 @@
 -- `open_side` meets its contract. Assumes nothing.
 use Prim.Native.Nat.{◌≤◌}
-use mathlib.Core.Path.{◌≡◌, sym, ap, ◌∙◌}
+use mathlib.Core.Path.{◌≡◌}
 use lib.ListN.{length, take}
 use borrow.Author.Rules.{rules}
-use Rattle.protocol.specs.Transcript.{Parts, parts_of}
-use Rattle.key.specs.Numbers.{key_with, of_with}
+use Rattle.protocol.specs.Transcript.{parts_of}
+use Rattle.key.specs.Numbers.{key_with}
 use Rattle.side.proofs.Laws.{sided, headed, seed-long, κ_in, reply_in, reply-long, reply_given, kept_in}
 use Rattle.side.proofs.open_side.Goals as goal
 
@@ -13,34 +13,30 @@ split-parts-requires c =
     (headed c.requires.sound).good
 
 pub slice_bounds-reply-end : goal.slice_bounds-reply-end
-slice_bounds-reply-end c =
-    reply_in c.requires.sound (ap (λ (P : Parts). P.p7) (sym c.split-parts.ensures)) (c.reply_start-at.ensures.value (key_with c.args.key.numbers c.args.key.entries.now) (parts_of c.args.run.now) (of_with _ c.args.key.entries.now) (ap (λ (P : Parts). P.p2) (sym c.split-parts.ensures)) (ap (λ (P : Parts). P.p6) (sym c.split-parts.ensures))) (c.reply_length.ensures.value (key_with c.args.key.numbers c.args.key.entries.now) (parts_of c.args.run.now) (of_with _ c.args.key.entries.now) (ap (λ (P : Parts). P.p2) (sym c.split-parts.ensures)) (ap (λ (P : Parts). P.p6) (sym c.split-parts.ensures)))
+slice_bounds-reply-end c = reply_in c.requires.sound c.split-parts.ensures c.reply_start-at.ensures.value c.reply_length.ensures.value
 
 pub unwrap-kappa-requires : goal.unwrap-kappa-requires
 unwrap-kappa-requires c =
-    let long : 16 ≤ length c.split-parts.result.p7.now = κ_in c.requires.sound (ap (λ (P : Parts). P.p7) (sym c.split-parts.ensures)) in
+    let long : 16 ≤ length c.split-parts.result.p7.now = κ_in c.requires.sound c.split-parts.ensures in
     search rules
 
 pub unwrap-seed-requires : goal.unwrap-seed-requires
 unwrap-seed-requires c =
-    let long : length c.split-parts.result.p4.now ≡ 16 = seed-long c.requires.sound (ap (λ (P : Parts). P.p4) (sym c.split-parts.ensures)) in
+    let long : length c.split-parts.result.p4.now ≡ 16 = seed-long c.requires.sound c.split-parts.ensures in
     search rules
 
 pub reopen_kept-requires-clause-reply_long : goal.reopen_kept-requires-clause-reply_long
-reopen_kept-requires-clause-reply_long c =
-    reply-long c.requires.sound (ap (λ (P : Parts). P.p7) (sym c.split-parts.ensures)) (c.reply_start-at.ensures.value (key_with c.args.key.numbers c.args.key.entries.now) (parts_of c.args.run.now) (of_with _ c.args.key.entries.now) (ap (λ (P : Parts). P.p2) (sym c.split-parts.ensures)) (ap (λ (P : Parts). P.p6) (sym c.split-parts.ensures))) (c.reply_length.ensures.value (key_with c.args.key.numbers c.args.key.entries.now) (parts_of c.args.run.now) (of_with _ c.args.key.entries.now) (ap (λ (P : Parts). P.p2) (sym c.split-parts.ensures)) (ap (λ (P : Parts). P.p6) (sym c.split-parts.ensures)))
+reopen_kept-requires-clause-reply_long c = reply-long c.requires.sound c.split-parts.ensures c.reply_start-at.ensures.value c.reply_length.ensures.value
 
 pub reopen_kept-requires-clause-given : goal.reopen_kept-requires-clause-given
-reopen_kept-requires-clause-given c =
-    reply_given c.requires.sound (ap (λ (P : Parts). P.p7) (sym c.split-parts.ensures)) (c.reply_start-at.ensures.value (key_with c.args.key.numbers c.args.key.entries.now) (parts_of c.args.run.now) (of_with _ c.args.key.entries.now) (ap (λ (P : Parts). P.p2) (sym c.split-parts.ensures)) (ap (λ (P : Parts). P.p6) (sym c.split-parts.ensures))) (c.reply_length.ensures.value (key_with c.args.key.numbers c.args.key.entries.now) (parts_of c.args.run.now) (of_with _ c.args.key.entries.now) (ap (λ (P : Parts). P.p2) (sym c.split-parts.ensures)) (ap (λ (P : Parts). P.p6) (sym c.split-parts.ensures)))
+reopen_kept-requires-clause-given c = reply_given c.requires.sound c.split-parts.ensures c.reply_start-at.ensures.value c.reply_length.ensures.value
 
 pub write-requires-clause-reply_long : goal.write-requires-clause-reply_long
-write-requires-clause-reply_long c =
-    reply-long c.requires.sound (ap (λ (P : Parts). P.p7) (sym c.split-parts.ensures)) (c.reply_start-at.ensures.value (key_with c.args.key.numbers c.args.key.entries.now) (parts_of c.args.run.now) (of_with _ c.args.key.entries.now) (ap (λ (P : Parts). P.p2) (sym c.split-parts.ensures)) (ap (λ (P : Parts). P.p6) (sym c.split-parts.ensures))) (c.reply_length.ensures.value (key_with c.args.key.numbers c.args.key.entries.now) (parts_of c.args.run.now) (of_with _ c.args.key.entries.now) (ap (λ (P : Parts). P.p2) (sym c.split-parts.ensures)) (ap (λ (P : Parts). P.p6) (sym c.split-parts.ensures)))
+write-requires-clause-reply_long c = reply-long c.requires.sound c.split-parts.ensures c.reply_start-at.ensures.value c.reply_length.ensures.value
 
 pub returns-clause-sided : goal.returns-clause-sided
 returns-clause-sided c =
     let kappa : c.unwrap-kappa.result.now ≡ take 16 c.split-parts.result.p7.now = search rules in
     let seed : c.unwrap-seed.result.now ≡ c.split-parts.result.p4.now = search rules in
-    let at = kept_in c.requires.sound (ap (λ (P : Parts). P.p7) (sym c.split-parts.ensures)) (c.reply_start-at.ensures.value (key_with c.args.key.numbers c.args.key.entries.now) (parts_of c.args.run.now) (of_with _ c.args.key.entries.now) (ap (λ (P : Parts). P.p2) (sym c.split-parts.ensures)) (ap (λ (P : Parts). P.p6) (sym c.split-parts.ensures))) (c.reply_length.ensures.value (key_with c.args.key.numbers c.args.key.entries.now) (parts_of c.args.run.now) (of_with _ c.args.key.entries.now) (ap (λ (P : Parts). P.p2) (sym c.split-parts.ensures)) (ap (λ (P : Parts). P.p6) (sym c.split-parts.ensures))) kappa ((ap (λ (P : Parts). P.p4) (sym c.split-parts.ensures)) ∙ sym seed) in
+    let at = kept_in c.requires.sound c.split-parts.ensures c.reply_start-at.ensures.value c.reply_length.ensures.value kappa seed in
     sided c.reopen_kept.ensures.kept at (c.write.ensures.written (key_with c.args.key.numbers c.args.key.entries.now) (parts_of c.args.run.now) at)

@@ -4,11 +4,10 @@ use lib.ListN.{length, drop}
 use Rattle.protocol.specs.Key.{Key, entries, key_of}
 use Rattle.protocol.specs.Accepts.{GoodKey}
 use Rattle.key.specs.KeyLaws.{entries_of}
-use Rattle.judge.proofs.Runs.{front_long, key_with_lem, three_of_four}
+use Rattle.judge.proofs.Runs.{front_long, key_with_lem}
 use Rattle.fork.proofs.Forked.{good_key}
 use Rattle.pair.specs.Lent.{lengths}
 use Rattle.pair.proofs.Answering.{key_refused, room_refused, run_read}
-use Rattle.pair.proofs.Room.{Enough, enough_of}
 use Rattle.pair.proofs.reader.pair.Goals as goal
 
 pub returns-in_err-k : goal.returns-in_err-k
@@ -20,19 +19,11 @@ returns-in_err-k c =
 pub returns-then-not-room : goal.returns-then-not-room
 returns-then-not-room c =
     room_refused c.args.key.now (lengths (length c.args.hash1.now) (length c.args.hash2.now) (length c.args.secret.now) (length c.args.uv.now) (length c.args.entries.now) (length c.args.work.now)) c.args.run1.now c.args.run2.now
-    c.args.hash1.now c.args.hash2.now c.args.secret.now c.args.uv.now (sym c.in_ok-k.ensures.verdict) (sym (c.room.ensures (key_of c.args.key.now) c.in_ok-k.ensures.read.of) ∙ c.if-not-room.true)
+    c.args.hash1.now c.args.hash2.now c.args.secret.now c.args.uv.now (sym c.in_ok-k.ensures.verdict) (sym (c.room.ensures.value (key_of c.args.key.now) c.in_ok-k.ensures.read.of) ∙ c.if-not-room.true)
 
 pub entries-requires-clause-key_in_bounds : goal.entries-requires-clause-key_in_bounds
 entries-requires-clause-key_in_bounds c =
-    let read = c.in_ok-k.ensures.read in
-    let lent : Enough c.in_ok-k.k (length c.args.hash1.now) (length c.args.hash2.now) (length c.args.secret.now) (length c.args.uv.now) (length c.args.entries.now) (length c.args.work.now) = enough_of _ _ _ _ _ _ _ (key_of c.args.key.now) read.of (sym (c.room.ensures (key_of c.args.key.now) read.of) ∙ c.if-not-room.false) in
-    subst (λ (y : ℕ). y ≤ length c.args.entries.now) (entries_of _ (key_of c.args.key.now) read.of) lent.rows
-
-pub slice_bounds-read-end : goal.slice_bounds-read-end
-slice_bounds-read-end c =
-    let read = c.in_ok-k.ensures.read in
-    let lent : Enough c.in_ok-k.k (length c.args.hash1.now) (length c.args.hash2.now) (length c.args.secret.now) (length c.args.uv.now) (length c.args.entries.now) (length c.args.work.now) = enough_of _ _ _ _ _ _ _ (key_of c.args.key.now) read.of (sym (c.room.ensures (key_of c.args.key.now) read.of) ∙ c.if-not-room.false) in
-    omega (arith, c.entry_count-count.ensures.0, lent.rows, c.entries.auto.at)
+    subst (λ (y : ℕ). y ≤ length c.args.entries.now) (entries_of _ (key_of c.args.key.now) c.in_ok-k.ensures.read.of) (c.room.ensures.entries_long c.if-not-room.false)
 
 pub slice_bounds-read-end-2 : goal.slice_bounds-read-end-2
 slice_bounds-read-end-2 c =
@@ -46,38 +37,8 @@ pub read_runs-requires-clause-good_key : goal.read_runs-requires-clause-good_key
 read_runs-requires-clause-good_key c =
     subst (λ (K : Key). GoodKey K) (sym (key_with_lem c.args.key.now c.in_ok-k.k c.in_ok-k.ensures.read (drop (entries (key_of c.args.key.now)) c.args.entries.now) c.entry_count-count.ensures.0 c.entries.ensures)) (good_key c.args.key.now c.in_ok-k.k c.in_ok-k.ensures.read)
 
-pub read_runs-requires-clause-hash1_long : goal.read_runs-requires-clause-hash1_long
-read_runs-requires-clause-hash1_long c =
-    let read = c.in_ok-k.ensures.read in
-    let lent : Enough c.in_ok-k.k (length c.args.hash1.now) (length c.args.hash2.now) (length c.args.secret.now) (length c.args.uv.now) (length c.args.entries.now) (length c.args.work.now) = enough_of _ _ _ _ _ _ _ (key_of c.args.key.now) read.of (sym (c.room.ensures (key_of c.args.key.now) read.of) ∙ c.if-not-room.false) in
-    lent.first_buffer
-
-pub read_runs-requires-clause-hash2_long : goal.read_runs-requires-clause-hash2_long
-read_runs-requires-clause-hash2_long c =
-    let read = c.in_ok-k.ensures.read in
-    let lent : Enough c.in_ok-k.k (length c.args.hash1.now) (length c.args.hash2.now) (length c.args.secret.now) (length c.args.uv.now) (length c.args.entries.now) (length c.args.work.now) = enough_of _ _ _ _ _ _ _ (key_of c.args.key.now) read.of (sym (c.room.ensures (key_of c.args.key.now) read.of) ∙ c.if-not-room.false) in
-    lent.second_buffer
-
-pub read_runs-requires-clause-secret_long : goal.read_runs-requires-clause-secret_long
-read_runs-requires-clause-secret_long c =
-    let read = c.in_ok-k.ensures.read in
-    let lent : Enough c.in_ok-k.k (length c.args.hash1.now) (length c.args.hash2.now) (length c.args.secret.now) (length c.args.uv.now) (length c.args.entries.now) (length c.args.work.now) = enough_of _ _ _ _ _ _ _ (key_of c.args.key.now) read.of (sym (c.room.ensures (key_of c.args.key.now) read.of) ∙ c.if-not-room.false) in
-    lent.bits
-
-pub read_runs-requires-clause-uv_long : goal.read_runs-requires-clause-uv_long
-read_runs-requires-clause-uv_long c =
-    let read = c.in_ok-k.ensures.read in
-    let lent : Enough c.in_ok-k.k (length c.args.hash1.now) (length c.args.hash2.now) (length c.args.secret.now) (length c.args.uv.now) (length c.args.entries.now) (length c.args.work.now) = enough_of _ _ _ _ _ _ _ (key_of c.args.key.now) read.of (sym (c.room.ensures (key_of c.args.key.now) read.of) ∙ c.if-not-room.false) in
-    lent.errors
-
-pub read_runs-requires-clause-work_long : goal.read_runs-requires-clause-work_long
-read_runs-requires-clause-work_long c =
-    let read = c.in_ok-k.ensures.read in
-    let lent : Enough c.in_ok-k.k (length c.args.hash1.now) (length c.args.hash2.now) (length c.args.secret.now) (length c.args.uv.now) (length c.args.entries.now) (length c.args.work.now) = enough_of _ _ _ _ _ _ _ (key_of c.args.key.now) read.of (sym (c.room.ensures (key_of c.args.key.now) read.of) ∙ c.if-not-room.false) in
-    three_of_four _ _ lent.works
-
 pub returns : goal.returns
 returns c =
     run_read c.args.key.now (lengths (length c.args.hash1.now) (length c.args.hash2.now) (length c.args.secret.now) (length c.args.uv.now) (length c.args.entries.now) (length c.args.work.now)) c.args.run1.now c.args.run2.now (sym c.in_ok-k.ensures.verdict)
     (key_with_lem c.args.key.now c.in_ok-k.k c.in_ok-k.ensures.read (drop (entries (key_of c.args.key.now)) c.args.entries.now) c.entry_count-count.ensures.0 c.entries.ensures)
-    (sym (c.room.ensures (key_of c.args.key.now) c.in_ok-k.ensures.read.of) ∙ c.if-not-room.false) c.read_runs.ensures
+    (sym (c.room.ensures.value (key_of c.args.key.now) c.in_ok-k.ensures.read.of) ∙ c.if-not-room.false) c.read_runs.ensures

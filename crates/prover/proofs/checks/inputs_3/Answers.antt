@@ -15,7 +15,7 @@ pub statement-requires-clause-secret_long : goal.statement-requires-clause-secre
 statement-requires-clause-secret_long c =
     let a = c.args in
     let of = c.requires.of in
-    secret_long (key_of a.key.now) a.seeds.now a.secret.now [] a.kappa.now (sym (c.sized.ensures.is (key_of a.key.now) (sym of.m_is) (sym of.executions_is)) ∙ c.if-not-sized.false) ∙ sym of.m_is
+    secret_long (key_of a.key.now) a.given.seeds.now a.given.secret.now [] a.given.kappa.now (sym (c.sized.ensures.is (key_of a.key.now) (sym of.m_is) (sym of.executions_is)) ∙ c.if-not-sized.false) ∙ sym of.m_is
 
 pub returns : goal.returns
 returns c =

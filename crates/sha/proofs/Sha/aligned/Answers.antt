@@ -4,9 +4,6 @@ use Rattle.sha.specs.State.{fed_join}
 use Rattle.sha.proofs.Laws.{fed_parts, front-whole, blocks_stand}
 use Rattle.sha.proofs.Sha.aligned.Goals as goal
 
-pub blocks-self-requires : goal.blocks-self-requires
-blocks-self-requires c = front-whole c.args.d.now
-
 pub returns : goal.returns
 returns c =
     let d = c.args.d.now in
@@ -16,4 +13,4 @@ returns c =
     (record {
       stands = λ m w. blocks_stand c.args.self.now m (take n d) _ n _ (sym (length-take-le n d (omega arith))) c.requires (front-whole d) c.blocks-self.ensures refl w;
     })
-    c.keep.ensures)
+    c.fill.ensures.fed)

@@ -1,11 +1,8 @@
 -- What the block has room for is fed, then the rest.
 use Rattle.std.proofs.Common.{◌-◌, ◌%◌, arith}
 use Rattle.sha.specs.State.{fed_join}
-use Rattle.sha.proofs.Laws.{fed_parts, room-front}
+use Rattle.sha.proofs.Laws.{fed_parts}
 use Rattle.sha.proofs.Sha.update.Goals as goal
 
-pub complete-requires : goal.complete-requires
-complete-requires c = room-front c.args.self.now.count c.args.d.now (omega arith)
-
 pub returns : goal.returns
-returns c = fed_parts _ _ c.args.d.now (64 - c.args.self.now.count % 64) (omega arith) (fed_join c.complete.ensures.fed c.aligned-2.ensures)
+returns c = fed_parts _ _ c.args.d.now (64 - c.args.self.now.count % 64) (omega arith) (fed_join c.fill-2.ensures.fed c.aligned-2.ensures)

@@ -1,9 +1,6 @@
 -- `answers::pi_of` meets its contract. Invariant: the rows below k are fed, and their sums stand in front. Assumes nothing.
-use mathlib.Core.Path.{◌≡◌}
-use mathlib.Core.List.{◌++◌}
 use Prim.Native.Nat.{◌%◌}
-use lib.ListN.{length, drop}
-use Rattle.lists.specs.Tab.{tab}
+use Rattle.lists.specs.Tab.{Filling}
 use Rattle.lists.specs.Index.{cat}
 use Rattle.lists.specs.Bytes.{nums}
 use Rattle.numbers.specs.Sum.{sum}
@@ -15,5 +12,4 @@ abbrev pub invariant-loop-k : goal.invariant-loop-k
 invariant-loop-k l =
     let s = l.fn.shares in
     Fed l.initial.s (cat l.k (λ j. nums s.parties (alpha_at s.modulus.q s.m s.hidden l.given s.work.now j))) l.s
-    × (l.sums ≡ tab l.k (λ j. sum s.parties (alpha_at s.modulus.q s.m s.hidden l.given s.work.now j) % s.modulus.q) ++ drop l.k l.initial.sums)
-    × (length l.sums ≡ length l.initial.sums)
+    × Filling s.m l.front l.k (λ j. sum s.parties (alpha_at s.modulus.q s.m s.hidden l.given s.work.now j) % s.modulus.q)

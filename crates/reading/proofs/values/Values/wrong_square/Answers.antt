@@ -1,15 +1,16 @@
-use Rattle.lists.specs.TestLaws.{every_zero}
-use Rattle.reading.proofs.Laws.{squared_next, wrong_found, wrong_none}
+-- `wrong_square`: what the search gives. Assumes nothing.
+use Rattle.std.proofs.Common.{◌≡◌, true, false, rules, tests}
+use Rattle.std.proofs.lemmas.Iterator.{first_from_Range}
+use Rattle.reading.specs.Found.{is_wrong}
+use Rattle.reading.proofs.Laws.{wrong_first}
 use Rattle.reading.proofs.values.Values.wrong_square.Goals as goal
 
-pub loop-k-init : goal.loop-k-init
-loop-k-init c = every_zero _
-
-pub returns-then-self-m : goal.returns-then-self-m
-returns-then-self-m c = (c.loop-k-test.true, wrong_found _ _ _ _ c.loop-k.invariant c.mul.ensures.is c.loop-k-test.true c.if-self-m.true)
-
-pub loop-k-preserved : goal.loop-k-preserved
-loop-k-preserved c = squared_next _ _ _ _ c.loop-k.invariant c.mul.ensures.is c.if-self-m.false
-
 pub returns : goal.returns
-returns c = wrong_none _ _ _ _ c.loop-k.invariant c.loop-k-test.false
+returns c =
+    let q = c.args.self.key.numbers.modulus.q in
+    let m = c.args.self.key.numbers.m in
+    let x = c.args.self.sums.now in
+    wrong_first q m x c.find.result
+    (first_from_Range _ _ _ _ (λ k. is_wrong q m x k ≡ true) (λ k. is_wrong q m x k ≡ false) c.find.ensures.ran
+    (λ k p h. search (rules, tests))
+    (λ k p h. search (rules, tests)))

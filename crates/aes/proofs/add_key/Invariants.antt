@@ -1,7 +1,0 @@
--- `aes::add_key` meets its contract: the loop fills r in order. Assumes nothing.
-use Rattle.std.proofs.Common.{◌+◌, ◌*◌, get_or, bit_xor}
-use Rattle.lists.specs.Tab.{Filling}
-use Rattle.aes.proofs.add_key.Given as goal
-
-abbrev pub invariant-loop-i : goal.invariant-loop-i
-invariant-loop-i l = Filling 16 l.r l.i (λ k. bit_xor (get_or l.s k 0) (get_or l.w (16 * l.n + k) 0))
