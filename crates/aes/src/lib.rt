@@ -1,5 +1,6 @@
 // AES-128, FIPS 197: the key schedule and the encryption of one block. A round's number n is a bare index with its bound beside it: a type
-// for it would hold that one number, which each contract would read from a field.
+// for it would hold that one number, which each contract would read from a field. Sixteen blocks side by side have functions of their own,
+// for speed: see `aes_wide`.
 #![tactic(auto)]
 
 ghost use Rattle.std.specs.Prelude.{◌≡◌, ◌+◌, ◌<◌};

@@ -1,4 +1,5 @@
 // The calls' answers as one number, which is what C gets. No From: a Result is std's type, and an own type for each would be no plainer.
+// Each clause says beside the number that it fits 64 bits, as C has to know.
 
 ghost use Rattle.std.specs.Prelude.{◌≡◌, ◌≤◌, pos, neg_ℤ};
 ghost use Rattle.std.specs.Int.{w64};

@@ -43,8 +43,7 @@ pub fn put_numbers(xs: &[u32], out: &mut [u8])
     }
 }
 
-// The numbers of a list of bytes. Such loops, each place from its own number, stand in other crates too: one function for all would take
-// the number as a closure, and each call of it be as long as the two lines of the loop.
+// The numbers of a list of bytes. `execution::fill`, which takes the number at a place as a closure, stands above.
 pub fn read_numbers(bytes: &[u8], out: &mut [u32])
     requires { length bytes.now ≡ 4 * length out.old }
     ensures { out.new ≡ tab (length out.old) (num bytes.now) }

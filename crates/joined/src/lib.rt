@@ -37,7 +37,7 @@ pub fn join_open(sharing: Sharing, hidden: usize, work: &[u32], sums: &mut [u32]
     fill(sums, |j| open_sum(sharing, hidden, j, work));
 }
 
-// Party i's 3m numbers added to the sums, modulo q.
+// Party i's 3m numbers added to the sums, modulo q. The closure that `fill` takes could not read the list that is written.
 pub fn join_party(sharing: Sharing, i: usize, work: &[u32], sums: &mut [u32])
     requires i_lt_parties { i < sharing.parties }
     requires work_long { 3 * sharing.m * sharing.parties ≤ length work.now }

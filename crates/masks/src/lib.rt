@@ -22,8 +22,8 @@ fn draw_row(sharing: Sharing, i: usize, seed: &[u8; 16], work: &mut [u32])
     }
 }
 
-// Each party's b, and each but party N's s. `shares::draw_shares` draws another row of each seed: one walk would take that step, which writes
-// to `work`, as a closure.
+// Each party's b, and each but party N's s. `shares::draw_shares` draws another row of each seed: one walk would take that step, which
+// writes to `work`, as a closure.
 #[tactic(auto, using(crate::proofs::Laws::masks_next))]
 fn draw_masks(sharing: Sharing, leaves: &[u8], work: &mut [u32])
     requires leaves_long { length leaves.now ≡ 16 * sharing.parties }

@@ -51,7 +51,7 @@ fn h_gamma(k: Numbers, seeds: &[u8], work: &mut [u32]) -> [u8; 32]
     s.finish()
 }
 
-// The master seeds of all executions.
+// The master seeds of all executions. Nothing compares or prints them.
 #[derive(Clone, Copy)]
 struct Seeds<'a> {
     seeds: &'a [u8],

@@ -105,7 +105,7 @@ fn rest(materials: Materials, work: &mut [u32], out: &mut [u8])
     out[at..].copy_from_slice(&s.finish());
 }
 
-// The inputs of message 3.
+// The inputs of message 3. Nothing compares or prints them.
 #[derive(Clone, Copy)]
 struct Inputs<'a> {
     given: Given<'a>,

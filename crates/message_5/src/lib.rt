@@ -89,7 +89,7 @@ fn h_psi(materials: Materials, seed: &[u8; 16], entries: &[u32], work: &mut [u32
     s.finish()
 }
 
-// The inputs of message 5.
+// The inputs of message 5. Nothing compares or prints them.
 #[derive(Clone, Copy)]
 struct Inputs<'a> {
     given: Given<'a>,

@@ -16,8 +16,8 @@ use response::reply;
 use transcript::{hidden_at, replies_length, reply_size};
 
 // The replies of the kept executions. Its turn is another than those of messages 3 and 5: one walk for all would take the turn as a closure
-// that changes lists and hash, and its clauses would be the loop's invariant again. `entries` is read and `work` is written, so they are lent
-// apart.
+// that changes lists and hash, and its clauses would be the loop's invariant again. `entries` is read and `work` is written, so they are
+// lent apart.
 fn replies(
     materials: Materials,
     seed: &[u8; 16],
@@ -77,7 +77,7 @@ fn replies(
     }
 }
 
-// The inputs of message 7.
+// The inputs of message 7. Nothing compares or prints them.
 #[derive(Clone, Copy)]
 struct Inputs<'a> {
     given: Given<'a>,

@@ -5,7 +5,7 @@ ghost use Rattle.lists.specs.Index.{part};
 
 use key::Numbers;
 
-// What messages 3, 5 and 7 are given beside the key: the master seeds, the secret, E and the seed κ.
+// What messages 3, 5 and 7 are given beside the key: the master seeds, the secret, E and the seed κ. Nothing compares or prints it.
 #[derive(Clone, Copy)]
 pub struct Given<'a> {
     pub seeds: &'a [u8],
@@ -14,7 +14,7 @@ pub struct Given<'a> {
     pub kappa: &'a [u8],
 }
 
-// A key's numbers, and what was given beside the key, of right lengths.
+// A key's numbers, and what was given beside the key, of right lengths. Nothing compares or prints it.
 #[derive(Clone, Copy)]
 pub struct Materials<'a> {
     pub numbers: Numbers,

@@ -91,8 +91,8 @@ impl Values<'_> {
         (0..self.key.numbers.m).find(|&k| self.is_wrong(k))
     }
 
-    // The secret, once each s(k) is known to be 0 or 1. Its loop and those of `write_u` and `write_v` are a `for` of two lines each: a
-    // function that takes the number at a place as a closure would be called in as many.
+    // The secret, once each s(k) is known to be 0 or 1. Its loop and those of `write_u` and `write_v` stay by themselves:
+    // these are bytes, where `execution::fill` is of u32, and for u and v this crate would have to stand on that one.
     pub(crate) fn write_bits(self, out: &mut [u8])
         requires binary { (j : ℕ) → j < self.key.numbers.m → s_at self.key.numbers.m self.sums.now j ≤ 1 }
         requires out_long { length out.old ≡ self.key.numbers.m }

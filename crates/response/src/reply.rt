@@ -28,7 +28,7 @@ fn put_alphas(shares: OpenShares, i: usize, out: &mut [u8])
     bytes4::put_numbers(alphas, out);
 }
 
-// d(1) .. d(m) and s(1) .. s(m) of party N, unless it is hidden.
+// d(1) .. d(m) and s(1) .. s(m) of party N, unless it is hidden: into bytes, where `execution::prepare` takes them from bytes.
 #[tactic(auto, using(crate::proofs::Laws::last_none, crate::proofs::Laws::last_some))]
 fn put_last(shares: OpenShares, hidden: usize, out: &mut [u8])
     requires hidden_lt_parties { hidden < shares.parties }
@@ -115,8 +115,8 @@ fn write_reply(
 
 // The reply of an execution that is dealt from its master seed and the secret, into a list of its length. The seeds and shares go to
 // `leaves` and `work`; nobody is hidden there, as in `write_reply`. The seeds, the secret and the lists are lent each by itself, hence nine
-// parameters: one struct of them would be made for this one call. Message 5 deals and computes the outputs by the same two calls, and hashes
-// them.
+// parameters: one struct of them would be made for this one call. Message 5 deals and computes the outputs by the same two calls, and
+// hashes them.
 pub fn dealt_reply(
     statement: Statement,
     execution: usize,

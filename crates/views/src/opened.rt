@@ -6,8 +6,9 @@ ghost use Rattle.views.specs.Opened.{OpenedHash};
 use crate::parties::h_of;
 use execution::{Dealing, Lists, prepare};
 
-// h(e) of an execution that is opened by master seed: message 1 and the judge both call this. Other executions are filled by other functions
-// of `prepare` and `masks`, and other hashes are made of them. Nobody is hidden (`parties`, as at `shares::draw_shares`), so nothing is given.
+// h(e) of an execution that is opened by master seed: message 1 and the judge both call this. Other executions are filled by other
+// functions of `prepare` and `masks`, and other hashes are made of them. Nobody is hidden (`parties`, as at `shares::draw_shares`), so
+// nothing is given.
 #[tactic(auto, using(crate::proofs::Laws::opened_for_h))]
 pub fn opened_hash(
     dealing: Dealing,

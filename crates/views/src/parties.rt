@@ -12,8 +12,8 @@ ghost use Rattle.views.specs.Seen.{gamma_open, gamma_at, ForH, ForΩ};
 
 use execution::{Lists, commit, shares};
 
-// Γ(i) of an open party, which takes numbers d of party N alone. Its input is fed: with a list of 544 bytes the pair reader took 120 bytes of
-// stack more than include/badge.h says.
+// Γ(i) of an open party, which takes numbers d of party N alone. Its input is fed: with a list of 544 bytes the pair reader took 120 bytes
+// of stack more than include/badge.h says. The kind is document 01's number of this hash, as at `begin`.
 pub fn gamma_open(lists: Lists, execution: usize, i: usize) -> [u8; 32]
     requires execution_bound { execution < 32 }
     requires i_lt_parties { i < lists.parties }
@@ -44,7 +44,8 @@ pub fn gamma_at(lists: Lists, hidden: usize, execution: usize, i: usize, given: 
     gamma_open(lists, execution, i)
 }
 
-// h(e)'s input: Γ(1) .. Γ(N). The parts are cut out by place: of what a turn of `chunks_exact_mut` wrote nothing is known when the loan ends.
+// h(e)'s input: Γ(1) .. Γ(N), the hidden party as at `gamma_at`. The parts are cut out by place: of what a turn of `chunks_exact_mut` wrote
+// nothing is known when the loan ends.
 pub fn h_input(lists: Lists, hidden: usize, execution: usize, given: &[u8], out: &mut [u8])
     requires execution_bound { execution < 32 }
     requires given_long { hidden < lists.parties → length given.now ≡ 32 }

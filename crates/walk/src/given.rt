@@ -9,6 +9,7 @@ use execution::Statement;
 use transcript::FileParts;
 
 // A key's statement and the parts of a transcript whose form is good, with how many executions there are and how many are opened.
+// Nothing compares or prints it.
 #[derive(Clone, Copy)]
 pub struct Run<'k, 'p> {
     pub statement: Statement<'k>,
