@@ -109,6 +109,20 @@ for path, name in (("crates/judge/src/run.rt", "judge::run::judge"), ("crates/ba
     seen_anew(f"c: an entry point with `requires`: {name}", f"{name} is an entry point", path, put(JUDGED, r"\1    requires { key.now ≡ run.now }\n    ensures"))
 seen_anew("c: a file that nothing proves", "that no `mod` line names", "crates/badge/src/lib.rt", drop(r"^pub mod messages;\n"))
 change("c: another contract", "contract badge_c::badge_judge has changed", CALLS, put(r"result ≡ number_of \(judge ", "0 ≡ number_of (judge "))
+seen_anew("c: a C function with a contract of its own", "badge_c::badge_judge promises something else", CALLS, put(r"result ≡ number_of \(judge ", "0 ≡ number_of (judge "))
+seen_anew("c: a C function with a clause less", "badge_c::badge_message_7_lent promises something else", CALLS,
+          lambda text: re.sub(r"(badge_message_7_lent.*?)    ensures out_after .*?\n", r"\1", text, flags=re.S))
+seen_anew("c: a C function that calls another", "badge_c::badge_message_3 does not call", CALLS, put(r"badge::messages::badge_message_3\(", "badge::messages::badge_message_5("))
+seen_anew("c: a second function of a call's name", "crate badge_c has other functions", "crates/badge_c/src/more.rt",
+          lambda text: "pub fn badge_judge() -> u32\n    ensures { result ≡ 0 }\n{\n    0\n}\n")
+seen_anew("c: a clause of several lines", "has a clause that is no `ensures` on a line of its own", "crates/badge/src/pairs.rt",
+          put(r"^    ensures answer_after \{ ", "    ensures answer_after {\n        "))
+change("c: another contract of a method", "contract sha::Sha::finish has changed", "crates/sha/src/lib.rt", put(r"result ≡ sha256 m \}", "result ≡ result }"))
+seen_anew("c: a method with `requires` where none may be", "sha::Sha::new is an entry point", "crates/sha/src/lib.rt", put(r"^(    pub fn new\(\) -> Sha\n)", r"\1        requires { ⊥ }\n"))
+MODULUS = "crates/numbers/src/modulus.rt"
+change("c: a fact of a parameter's type", "type numbers::Modulus has changed", MODULUS, put(r"\{ Member q qs \}", "{ q ≡ 257 }"))
+seen_anew("c: ≡ bound in a fact of a type", "binds ◌≡◌", MODULUS, put(r"\{ Member q qs \}", "{ (◌≡◌ : ℕ → ℕ → Type 0) → Member q qs }"))
+seen_anew("c: a field that hides length from the facts of its type", "binds length", "crates/key/src/sizes.rt", put(r"pub entries: ", "pub length: "))
 
 # d. The claims.
 
@@ -116,6 +130,8 @@ change("d: a premise less", r"claim .* has changed", PAGE, put(r"^(\|.*\|.*)P1 t
 change("d: a limit less", r"claim .* is no longer there", PAGE, put(r"(is not claimed\n\n)- .*\n(?:  .*\n)*", r"\1"))
 change("d: a heading that claims", "claims in order has changed", PAGE, put(r"^## Premises", "## An accepted file proves knowledge\n\n## Premises"))
 change("d: two rows exchanged", "claims in order has changed", PAGE, put(r"^(\| For every two byte lists.*\n)(\|.*\n)", r"\2\1"))
+seen_anew("d: a method that is not there", "names sha::Sha::finnish, which no listed crate has", PAGE, put("sha::Sha::finish", "sha::Sha::finnish"))
+change("d: a page more that claims", "page docs/DESIGN-PASS.md has changed", "docs/DESIGN-PASS.md", add("\nAn accepted file proves knowledge.\n"))
 seen_anew("d: a file that no auditor is told of", "does not tell an auditor of crates/protocol/specs/Demand3.antt", "README.md", put(r", `Demand3\.antt`", ""))
 change("d: a sentence more", r"claim .* is not pinned yet", PAGE, add("\nAn accepted file proves knowledge.\n"))
 

@@ -8,7 +8,8 @@
   of the listed crates, and files, crates, C calls and make targets that exist; README.md lists every crate and every file of definitions
   that the claims rest on.
 - README.md's table and the header have each number of crates/refusals/src/lib.rt with its name and meaning, and the vectors each number.
-- The headers declare exactly the functions that C calls, each with its parameters' names, order and types.
+- The headers declare exactly the functions that C calls, each with its parameters' names, order and types. Each of crate badge_c says of
+  its number what the function that it calls says of its answer, and has its parameters and its other clauses.
 - The words of contracts and definitions mean what the kit says (tools/words.py).
 - No other page claims anything, and no file stands in for one that make, Python or a reviewer reads.
 - What the claims rest on is as it was reviewed (tools/pins.py, tools/pinned.txt)."""
@@ -23,7 +24,7 @@ import words
 from repo import ROOT, expect, functions, listed, name_of, read
 
 PAGES = ["docs/CLAIMS.md", "README.md"]
-KNOWN_PAGES = ["README.md", "docs/CLAIMS.md", "docs/DECISIONS.md", "docs/DESIGN-PASS.md", "docs/PORT.md", "reference/README.md", "tests/vectors/README.md"]
+KNOWN_PAGES = ["README.md", "docs/CLAIMS.md", "docs/DECISIONS.md", "docs/DESIGN-PASS.md", "docs/LOOK-BACK.md", "docs/PORT.md", "reference/README.md", "tests/vectors/README.md"]
 BUILT = ("target/", "dist/", "reference/build")
 TABLE_START, TABLE_END = "<!-- numbers -->\n", "<!-- end of numbers -->\n"
 ENTRIES = ["judge::run::judge", "pair::reader::pair", *(f"message_{n}::message_{n}" for n in (1, 3, 5, 7))]
@@ -40,7 +41,7 @@ def quoted(page):
 
 
 def named_functions(page):
-    return [n for n in quoted(page) if re.fullmatch(r"[a-z0-9_]+(::[a-z0-9_]+)+", n)]
+    return [n for n in quoted(page) if re.fullmatch(r"[a-z0-9_]+(::\w+)+", n)]
 
 
 # Functions and what the pages name.
@@ -64,6 +65,52 @@ def check_functions(found):
         for name in named_functions(page):
             expect(name in found, f"{page} names {name}, which no listed crate has")
     expect(named_functions("docs/CLAIMS.md"), "docs/CLAIMS.md names no theorem")
+
+
+CALLED = {**{f"badge_message_{n}": f"badge::messages::badge_message_{n}" for n in (1, 3, 5, 7)},
+          **{f"badge_message_{n}_lent": f"message_{n}::message_{n}" for n in (1, 3, 5, 7)},
+          "badge_judge": "badge::badge_judge", "badge_judge_lent": "judge::run::judge",
+          "badge_pair": "badge::pairs::badge_pair", "badge_pair_lent": "badge::pairs::badge_pair_lent"}
+LENT = {"hash1": "hash1_of", "hash2": "hash2_of", "secret": "bits_of", "uv": "errors_of"}     # what a finding leaves in each lent list
+
+
+def clauses(function):
+    found = [" ".join(x.split()) for x in re.findall(r"^ +ensures(?: \w+)? \{ (.*) \}$", function.code, re.M)]
+    expect(len(found) == len(re.findall(rf"\b{repo.CLAUSE}\{{", function.code)), f"{name_of(function.file)}: {function.name} has a clause that is no `ensures` on a line of its own")
+    return found
+
+
+def in_numbers(clause):
+    """What a call of C promises where the function that it calls promises this of its answer."""
+    said, judged, read = (re.fullmatch(x, clause) for x in (r"said result ≡ (answer_of .*)", r"verdict_of result ≡ (.*)", r"Reads (\(.*\)) result hash1\.old.*"))
+    if said:
+        return [f"result ≡ code_of ({said[1]})"]
+    if judged:
+        return [f"result ≡ number_of ({judged[1]})"]
+    if read:
+        return [f"result ≡ finding_code (says {read[1]})", *(f"{x}.new ≡ {of} {read[1]} {x}.old" for x, of in LENT.items())]
+    return [clause]
+
+
+def check_calls(found):
+    """Each call of C against the function that it calls."""
+    calls = {n.removeprefix("badge_c::"): f for n, f in found.items() if n.startswith("badge_c::")}
+    expect(sorted(calls) == sorted(CALLED), f"crate badge_c has other functions than {', '.join(CALLED)}")
+    for name, inner in CALLED.items():
+        expect(inner in found, f"{inner}, which badge_c::{name} calls, is not there")
+        if name in calls and inner in found:
+            one, other = calls[name], found[inner]
+            right = sorted(x for clause in clauses(other) for x in in_numbers(clause))
+            expect(sorted(clauses(one)) == right, f"badge_c::{name} promises something else than {inner}, which it calls")
+            wide = [(x, {"u64": "usize"}.get(kind, kind)) for x, kind in one.parameters()]
+            expect(wide == other.parameters(), f"badge_c::{name} has other parameters than {inner}, which it calls")
+            expect(re.search(rf"\b{inner}\(", body_of(one)), f"badge_c::{name} does not call {inner}")
+
+
+def body_of(function):
+    text = repo.code(function.file)
+    start = text.index(function.code) + len(function.code)
+    return text[start:repo.closing(text, text.index("{", start)) + 1]
 
 
 def check_modules():
@@ -204,6 +251,7 @@ def main():
         pins.write(named_functions("docs/CLAIMS.md"))
     found = functions()
     check_functions(found)
+    check_calls(found)
     check_modules()
     check_files()
     check_trusted()

@@ -1,6 +1,7 @@
 """What tools/pinned.txt holds: the reviewed state of whatever a claim rests on, a heading and a text for each, and what to read where one
 has changed."""
 import collections
+import functools
 import hashlib
 import json
 import re
@@ -60,8 +61,11 @@ def contract(function):
 
 def reached(named):
     """The files of definitions and the types that the contracts' words come from, followed through the files' own `use` lines."""
+    named = list(named)
+    types = {kind for function in named for kind in kinds(head(function), function.file)}
     todo = [x[:2] for function in named for x in words(function.text, function.file)]
-    found, types = set(), set()
+    todo += [x[:2] for kind in types for x in words(*declared(*kind))]
+    found = set()
     while todo:
         crate, module = todo.pop()
         file = ROOT / "crates" / crate / "specs" / (module.replace(".", "/") + ".antt")
@@ -78,6 +82,32 @@ def reached(named):
             expect(not laws, f"{name_of(file)} has definitions that are pinned, and takes words from {', '.join(laws)}, which no pin follows")
             todo += [x[:2] for x in taken(file)]
     return sorted(found), sorted(types)
+
+
+def head(function):
+    """The function's parameters and result."""
+    return re.split(r"\b(?:requires|ensures)\b", function.code)[0]
+
+
+@functools.cache
+def declaring(name):
+    """The crates whose code declares a type of that name."""
+    return [x for x in listed() if any(re.search(rf"^pub (?:struct|enum) {name}\b", file.read_text(), re.M) for file in (ROOT / "crates" / x / "src").rglob("*.rt"))]
+
+
+def kinds(text, file):
+    """The types of listed crates that a text of code names, and those that these are made of: a fact of a type holds of each of its values."""
+    brought = set(re.findall(r"\w+", " ".join(use_lines(file)))) | {file.relative_to(ROOT / "crates").parts[0]}
+    found, todo = set(), [(x, brought) for x in re.findall(r"\b[A-Z]\w*", text)]
+    while todo:
+        name, near = todo.pop()
+        for crate in near.intersection(declaring(name)):
+            if (crate, name) not in found:
+                found.add((crate, name))
+                inner, place = declared(crate, name)
+                words_there = set(re.findall(r"\w+", " ".join(use_lines(place)))) | {crate}
+                todo += [(x, words_there) for x in re.findall(r"\b[A-Z]\w*", inner)]
+    return found
 
 
 def declared(crate, name):
@@ -142,7 +172,7 @@ def pinned_claims():
         if text:
             yield title + (f" ({seen[title]})" if seen[title] > 1 else ""), digest(" ".join(text).encode())
     yield "claims in order", "\n".join(order)
-    yield from ((f"page {page}", digest(read(page).encode())) for page in (CLAIMS, "README.md", "docs/DECISIONS.md", "docs/PORT.md"))
+    yield from ((f"page {page}", digest(read(page).encode())) for page in (CLAIMS, "README.md", *(f"docs/{x}.md" for x in ("DECISIONS", "DESIGN-PASS", "LOOK-BACK", "PORT"))) if (ROOT / page).exists())
 
 
 # Tests.

@@ -36,7 +36,7 @@ def once(pattern, new, text):
 
 
 def weak(module, modulus):
-    """The call of sha::digest at the end of sha::finish is every digest's last step."""
+    """The call of sha::digest at the end of sha::Sha::finish is every digest's last step."""
     define = 'define internal void @"sha::%s"(ptr noundef %%a0, ptr noundef %%a1) #0 {'
     return once(re.escape(define % "digest"), define % "whole_digest", module) + CUT.format(int(modulus)), []
 

@@ -144,13 +144,26 @@ def check_definitions(file, text):
         expect(not parts(word) & TAKEN, f"{name_of(file)} declares {word}, which is a word of the kit")
 
 
+def check_bound(name, file, found):
+    here = parts(*GIVEN, *(word for use in uses(file) if is_kit(use.path) for word, _ in use.names))
+    for word in sorted(found):
+        expect(not parts(word) & (TAKEN if "◌" in word else here), f"{name} binds {word}, which hides the kit's")
+
+
 def check_contract(name, function):
     """No contract binds a symbol of the kit, or a word that its file takes or that is there without."""
-    here = parts(*GIVEN, *(word for use in uses(function.file) if is_kit(use.path) for word, _ in use.names))
     parameters = {p[0] for p in function.parameters()}
     head = re.search(r"\bfn\b[^()]*", function.text).end()
-    for word in sorted(bound(function.text[head:]) | parameters):
-        expect(not parts(word) & (TAKEN if "◌" in word else here), f"{name} binds {word}, which hides the kit's")
+    check_bound(name, function.file, bound(function.text[head:]) | parameters)
+
+
+def check_facts(file, text):
+    """No fact of a type and no member of a trait binds one either; the fields of a type are in scope in its facts."""
+    for m in GHOST_FIELD.finditer(text):
+        inside = text[m.end():closing(text, m.end() - 1)]
+        block = text[text.rfind("\n}", 0, m.start()) + 1:m.start()]
+        fields = set(re.findall(r"^[ \t]+(?:pub )?(?:ghost )?(\w+)(?=:| =)", block + m.group(0), re.M))
+        check_bound(f"a fact in {name_of(file)}", file, bound(inside) | fields)
 
 
 def check_words():
@@ -158,6 +171,7 @@ def check_words():
         check_readable(file, code(file))
         if file.suffix == ".rt":
             check_comments(file, code(file))
+            check_facts(file, code(file))
         elif file.name != "Lib.antt":
             expect(not re.search(r"^\s*(?:pub\s+)?mod\b", code(file), re.M), f"{name_of(file)} has a module below it, which no pin follows")
         check_uses(file)

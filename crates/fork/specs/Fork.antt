@@ -1,7 +1,7 @@
 -- Two transcripts whose headers are good, and the execution in which they fork. Executions and parties count from 0.
 -- Assumes nothing.
 use Rattle.std.specs.Prelude.{ℕ, ◌+◌, ◌*◌, ◌-◌, ◌≤◌, ◌<◌, ◌≡◌, Bool, true, false, not, List, [], ◌∷◌, leb, eqb, length, get_or}
-use Rattle.std.proofs.Common.{sym, ap, ◌∙◌}
+use Rattle.std.proofs.Common.{ap, ◌∙◌}
 use Rattle.std.proofs.lemmas.Bool.{not-false}
 use Rattle.lists.specs.Index.{pick, every, holds}
 use Rattle.lists.specs.Bytes.{num}
@@ -13,16 +13,16 @@ use Rattle.protocol.specs.Prover.{opened, hidden_of}
 use Rattle.protocol.specs.Transcript.{Parts, sizes, good_header}
 use Rattle.protocol.specs.Judge.{hidden, reply_size, run_checks}
 use Rattle.key.specs.declared.sizes.Numbers.{Numbers}
-use Rattle.key.specs.Numbers.{Of}
+use Rattle.key.specs.Numbers.{Of, Alike, alike_of}
 
 -- the header of x is good for the numbers k
 pub record Headed (k : Numbers) (x : List ℕ) : Type 0 where
   pub good : (K : Key) → Of k K → good_header K x ≡ true
 
--- A header is good for the numbers of a key that finds it so.
-pub headed : (k : Numbers) (K : Key) (x : List ℕ) → Of k K → good_header K x ≡ true → Headed k x
+-- Keys of the same numbers find the same headers good, whatever the numbers are.
+pub header_alike : (J K : Key) (x : List ℕ) → Alike J K → good_header K x ≡ true → good_header J x ≡ true
 unfolding good_header sizes
-headed k K x of e = record { good = λ J is. ap test (sized J is) ∙ e }
+header_alike J K x same e = ap test sized ∙ e
   where
     test : List ℕ → Bool
     test s =
@@ -33,16 +33,25 @@ headed k K x of e = record { good = λ J is. ap test (sized J is) ∙ e }
         ∷ eqb (num x 12 + num x 13) (length x)
         ∷ [])
 
-    sized : (J : Key) → Of k J → sizes J ≡ sizes K
-    sized J is =
-        let a : J.M ≡ K.M = sym is.executions_is ∙ of.executions_is in
-        let b : J.τ ≡ K.τ = sym is.τ_is ∙ of.τ_is in
+    sized : sizes J ≡ sizes K
+    sized =
+        let a : J.M ≡ K.M = same.executions_same in
+        let b : J.τ ≡ K.τ = same.τ_same in
         λ i. 32 ∷ b i ∷ (16 * b i + 32 * (a i - b i) + 32) ∷ 16 ∷ 32 ∷ (a i - b i) ∷ []
+
+-- A header is good for the numbers of a key that finds it so.
+pub headed : (k : Numbers) (K : Key) (x : List ℕ) → Of k K → good_header K x ≡ true → Headed k x
+headed k K x of e = record { good = λ J is. header_alike J K x (alike_of is of) e }
 
 -- The header of an accepted file.
 pub accepted_headed : (k : Numbers) (K : Key) (x : List ℕ) → Of k K → first (run_checks K x) ≡ accepted → Headed k x
 unfolding run_checks
 accepted_headed k K x of e = headed k K x of (not-false _ (clean (run_checks K x) e).0)
+
+-- The header of a file that a key accepts is good for any key of the same numbers.
+pub accepted_alike : (J K : Key) (x : List ℕ) → Alike J K → first (run_checks K x) ≡ accepted → good_header J x ≡ true
+unfolding run_checks
+accepted_alike J K x same e = header_alike J K x same (not-false _ (clean (run_checks K x) e).0)
 
 -- execution e is kept and hides different parties by two hidden lists
 unfoldable pub differs : List ℕ → List ℕ → List ℕ → ℕ → Bool

@@ -16,7 +16,7 @@ use Rattle.refusals.specs.Number.{number_of, none_applies}
 use Rattle.protocol.specs.Key.{Key, entries, depth, key_of, limits, key_checks}
 use Rattle.key.specs.declared.sizes.Numbers.{Numbers}
 use Rattle.key.specs.Limits.{Limits}
-use Rattle.key.specs.Numbers.{Of, Read, key_with}
+use Rattle.key.specs.Numbers.{Of, Alike, Read, key_with}
 
 -- The number 0 is given to an accepted key alone.
 pub key_accepted : (x : List ℕ) → number_of (first (key_checks (key_of x) x)) ≡ 0 → first (key_checks (key_of x) x) ≡ accepted
@@ -65,6 +65,10 @@ limits_accepted x e =
 -- The numbers of k and of K give one count of entries.
 pub entries_of : (k : Numbers) (K : Key) → Of k K → k.n * (k.m + 1) ≡ entries K
 entries_of k K of = rw (of.n_is, of.m_is)
+
+-- Of any keys of the same numbers.
+pub entries_alike : {J K : Key} → Alike J K → entries J ≡ entries K
+entries_alike same = rw (same.n_same, same.m_same)
 
 pub entries_most : (n m : ℕ) → n ≤ 32 → m ≤ 128 → n * (m + 1) ≤ 4128
 entries_most n m h l = mul-le-mul {n₁ = n} {m₁ = m + 1} {n₂ = 32} {m₂ = 129} h (omega arith)

@@ -31,6 +31,10 @@ absorb-more n p v r e f = rw add-one (cc)
 pub put_behind : (a k : ℕ) (xs ys d : List ℕ) → a ≤ length xs → ys ≡ d → take (a + length d) (put_mid a k xs ys) ≡ take a xs ++ d
 put_behind a k xs ys d h e = rw e (take-put_mid a k xs d (a + length d) refl h)
 
+-- a list in which a part was written is as long as it was
+pub put_long : (a k : ℕ) (xs ys : List ℕ) → a + k ≤ length xs → length ys ≡ k → length (put_mid a k xs ys) ≡ length xs
+put_long a k xs ys h e = simp (length-append, length-drop) (omega (arith, length-take-le a xs (omega arith)))
+
 -- the count of a fed state
 pub counted-more : (c t : ℕ) (m d : List ℕ) → c ≡ length m % 2 ^ 64 → t ≡ (c + length d) % 2 ^ 64 → t ≡ length (m ++ d) % 2 ^ 64
 counted-more c t m d e f = rw (f, e, mod-add-mod, length-append)

@@ -14,33 +14,47 @@ use Rattle.protocol.specs.Prover.{opened, place, hidden_of}
 use Rattle.protocol.specs.Transcript.{Parts}
 use Rattle.protocol.specs.Judge.{hidden, given_count, reply_size, reply_at, given, good_numbers}
 use Rattle.key.specs.declared.sizes.Numbers.{Numbers}
-use Rattle.key.specs.Numbers.{Of, key_with}
+use Rattle.key.specs.Numbers.{Of, Alike, alike_of, of_with, key_with}
 
 -- Parts of which only E, the hidden list and part 7 are known.
 abbrev pub parts_with : List ℕ → List ℕ → List ℕ → Parts
 parts_with e h r = record { p1 = []; p2 = e; p3 = []; p4 = []; p5 = []; p6 = h; p7 = r }
 
--- The length and the numbers of part 7 depend on the key's numbers and on these parts alone.
-module _ (k : Numbers) (K : Key) (of : Of k K) where
-  numbered : record { q = k.modulus.q; n = k.n; m = k.m; N = k.parties; M = k.executions; τ = k.opened; entry = K.entry } ≡ K
+-- The length and the numbers of part 7 depend on the key's numbers and on these parts alone, whatever the numbers are.
+module _ (J K : Key) (same : Alike J K) where
+  numbered : record { q = J.q; n = J.n; m = J.m; N = J.N; M = J.M; τ = J.τ; entry = K.entry } ≡ K
   numbered =
       λ i.
-      record { q = of.q_is i; n = of.n_is i; m = of.m_is i; N = of.parties_is i; M = of.executions_is i; τ = of.τ_is i; entry = K.entry }
+      record { q = same.q_same i; n = same.n_same i; m = same.m_same i; N = same.parties_same i; M = same.executions_same i; τ = same.τ_same i; entry = K.entry }
 
+  pub size_alike : (P : Parts) (e h r : List ℕ) → P.p2 ≡ e → P.p6 ≡ h → (x : ℕ) → reply_size J (parts_with e h r) x ≡ reply_size K P x
+  unfolding reply_size given_count hidden depth
+  size_alike P e h r a b x = rw (← a, ← b) (ap (λ (L : Key). reply_size L P x) numbered)
+
+  pub length_alike :
+      (P : Parts) (e h : List ℕ) → P.p2 ≡ e → P.p6 ≡ h
+      → 16 + sum J.M (reply_size J (parts_with e h [])) ≡ 16 + sum K.M (reply_size K P)
+  length_alike P e h a b = ap (λ (s : ℕ). 16 + s) (sum_same same.executions_same (λ x y. size_alike P e h [] a b x))
+
+  pub numbers_alike :
+      (P : Parts) (e h r : List ℕ) → P.p2 ≡ e → P.p6 ≡ h → P.p7 ≡ r → good_numbers J (parts_with e h r) ≡ good_numbers K P
+  unfolding good_numbers given reply_at reply_size given_count hidden depth
+  numbers_alike P e h r a b c = rw (← a, ← b, ← c) (ap (λ (L : Key). good_numbers L P) numbered)
+
+-- The same for the numbers that code carries.
+module _ (k : Numbers) (K : Key) (of : Of k K) where
   pub size_of :
       (P : Parts) (e h r : List ℕ) → P.p2 ≡ e → P.p6 ≡ h → (x : ℕ) → reply_size (key_with k []) (parts_with e h r) x ≡ reply_size K P x
-  unfolding reply_size given_count hidden depth
-  size_of P e h r a b x = rw (← a, ← b) (ap (λ (L : Key). reply_size L P x) numbered)
+  size_of = size_alike (key_with k []) K (alike_of (of_with k []) of)
 
   pub length-of :
       (P : Parts) (e h : List ℕ) → P.p2 ≡ e → P.p6 ≡ h
       → 16 + sum k.executions (reply_size (key_with k []) (parts_with e h [])) ≡ 16 + sum K.M (reply_size K P)
-  length-of P e h a b = ap (λ (s : ℕ). 16 + s) (sum_same of.executions_is (λ x y. size_of P e h [] a b x))
+  length-of = length_alike (key_with k []) K (alike_of (of_with k []) of)
 
   pub numbers_of :
       (P : Parts) (e h r : List ℕ) → P.p2 ≡ e → P.p6 ≡ h → P.p7 ≡ r → good_numbers (key_with k []) (parts_with e h r) ≡ good_numbers K P
-  unfolding good_numbers given reply_at reply_size given_count hidden depth
-  numbers_of P e h r a b c = rw (← a, ← b, ← c) (ap (λ (L : Key). good_numbers L P) numbered)
+  numbers_of = numbers_alike (key_with k []) K (alike_of (of_with k []) of)
 
 -- The place of the next execution among the kept.
 pub place_opened : (E : List ℕ) (x : ℕ) → opened E x ≡ true → place E (x + 1) ≡ place E x

@@ -11,6 +11,7 @@ ghost use Rattle.protocol.specs.Prover.{opened, place};
 ghost use Rattle.protocol.specs.Transcript.{Parts, parts_of, sizes, good_header};
 ghost use Rattle.protocol.specs.Judge.{given_count, reply_size, good_numbers, form_checks};
 ghost use Rattle.key.specs.Numbers.{Of, key_with};
+ghost use Rattle.transcript.specs.Layout.{start_of};
 ghost use Rattle.transcript.specs.Replies.{parts_with};
 ghost use Rattle.transcript.specs.Seen.{seen};
 
@@ -30,6 +31,26 @@ fn sizes(k: Numbers) -> [usize; 6]
     let opened = k.opened;
     let kept = k.executions - opened;
     [32, opened, 16 * opened + 32 * kept + 32, 16, 32, kept]
+}
+
+// The length of part i, one of the first six.
+pub fn part_size(k: Numbers, i: usize) -> usize
+    requires { i < 6 }
+    ensures { (result ≤ 1056) × ((K : Key) → Of k K → result ≡ get_or (sizes K) i 0) }
+{
+    sizes(k)[i]
+}
+
+// Where part i begins.
+pub fn part_start(k: Numbers, i: usize) -> usize
+    requires { i ≤ 6 }
+    ensures { (result ≤ 6392) × ((K : Key) → Of k K → result ≡ start_of K i) }
+{
+    let mut at = 56;
+    for j in 0..i {
+        at += part_size(k, j);
+    }
+    at
 }
 
 // The first six pairs, each offset, and the file's end are right. A loop and not `all`: each place is the end of the one before.
