@@ -1,11 +1,9 @@
 -- Numbers in four bytes each, in the shape in which the loop meets them. Assumes nothing.
-use Rattle.std.proofs.Common.{◌≡◌, ℕ, ◌+◌, ◌*◌, ◌<◌, ◌≤◌, Bool, true, false, eqb, List, [], ◌∷◌, ◌++◌, length, get_or, take, refl, add-one, arith, take-suc}
+use Rattle.std.proofs.Common.{◌≡◌, ℕ, ◌+◌, ◌*◌, ◌<◌, ◌≤◌, List, ◌++◌, length, get_or, take, add-one, arith, take-suc}
 use Rattle.std.proofs.lemmas.Slice.{take-put_mid}
 use borrow.Rule.Slice.PartMut.{put_mid}
-use lib.Pointwise.{pointwise}
-use mathlib.Core.Bool.{◌&&◌}
 use Rattle.std.specs.Int.{from_le_bytes, w32}
-use Rattle.lists.specs.Index.{pick, same, part}
+use Rattle.lists.specs.Index.{part}
 use Rattle.lists.specs.Bytes.{le4, words, num, rd4}
 use Rattle.lists.specs.CatLaws.{le4-length, words_append}
 
@@ -19,18 +17,6 @@ pub put_more : (out xs y : List ℕ) (i k : ℕ) → 4 * i + 4 ≤ length out �
 put_more out xs y i k h l e f =
     let n : length y ≡ 4 = rw f (le4-length (get_or xs i 0)) in
     rw (take-put_mid (4 * i) k out y (4 * (i + 1)) (omega arith) (omega arith), words_more xs i l, e, f)
-
--- `==` of two lists is the definition's test
-pub pointwise_same : (x y : List ℕ) → pointwise eqb x y ≡ same x y
-unfolding same
-pointwise_same [] [] = refl
-pointwise_same [] (y ∷ ys) = refl
-pointwise_same (x ∷ xs) [] = refl
-pointwise_same (x ∷ xs) (y ∷ ys) = by_first (eqb x y) (pointwise_same xs ys)
-  where
-    by_first : (b : Bool) {r s : Bool} → r ≡ s → (b && r) ≡ pick b s false
-    by_first true e = e
-    by_first false e = refl
 
 -- a number of four bytes as the library reads it
 pub read_four : (x : List ℕ) (j : ℕ) → from_le_bytes w32 (part x (4 * j) 4) ≡ num x j

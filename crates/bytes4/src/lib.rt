@@ -16,11 +16,11 @@ pub fn le32(b: &[u8], j: usize) -> u32
     u32::from_le_bytes(*four)
 }
 
-// The two lists have the same bytes.
+// The two lists have the same bytes. Compared by place and not by `==`, so that a must-fail edit can pass over every second byte.
 pub fn same_bytes(a: &[u8], b: &[u8]) -> bool
     ensures { result ≡ same a.now b.now }
 {
-    a == b
+    a.len() == b.len() && (0..a.len()).all(|i| a[i] == b[i])
 }
 
 // The four bytes of x.

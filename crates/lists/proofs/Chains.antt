@@ -1,11 +1,12 @@
 -- What chains of iterators give (std's list functions), by index as the definitions here have it.
 -- Assumes nothing.
 use Rattle.std.specs.Prelude.{ℕ, zero, suc, ◌+◌, ◌*◌, ◌<◌, ◌≤◌, ◌≡◌, refl, Bool, true, false, ◌&&◌, List, [], length, get_or, take, drop}
-use Rattle.std.specs.List.{list_all}
+use Rattle.std.specs.List.{list_all, range_with_len}
 use Rattle.std.specs.Simd.{first_chunks}
 use Rattle.std.proofs.Common.{sym, ap, ◌∙◌, add-one, arith, drop-drop}
 use Rattle.std.proofs.lemmas.List.Folds.{list_all_more}
 use Rattle.std.proofs.lemmas.List.{take_all}
+use Rattle.std.proofs.lemmas.List.FromFn.{length-range_with_len, get_or-range_with_len}
 use Rattle.lists.specs.Index.{pick, every, part}
 use Rattle.lists.specs.TestLaws.{every_zero, every_suc, every_ext}
 
@@ -25,6 +26,13 @@ every_front p xs (suc n) h =
 
 pub every_list : (p : ℕ → Bool) (xs : List ℕ) → list_all p xs ≡ every (length xs) (λ j. p (get_or xs j 0))
 every_list p xs = ap (λ (l : List ℕ). list_all p l) (sym (take_all (length xs) xs (omega arith))) ∙ every_front p xs (length xs) (omega arith)
+
+-- `(0..n).all(p)` and `every`
+pub every_range : (p : ℕ → Bool) (n : ℕ) → list_all p (range_with_len 0 n) ≡ every n p
+every_range p n =
+    every_list p (range_with_len 0 n)
+    ∙ ap (λ (k : ℕ). every k (λ j. p (get_or (range_with_len 0 n) j 0))) (length-range_with_len 0 n)
+    ∙ every_ext n _ _ (λ j h. ap p (omega (arith, get_or-range_with_len 0 n j 0 h)))
 
 -- `xs.as_chunks().0.iter().all(p)` and `every`
 every_first : (n : ℕ) (p : ℕ → Bool) → (p 0 && every n (λ j. p (suc j))) ≡ every (suc n) p

@@ -15,12 +15,11 @@ use Rattle.std.specs.List.{list_all, range_with_len, fold, zip}
 use Rattle.std.proofs.lemmas.List.{take_all}
 use Rattle.std.proofs.lemmas.List.Sums.{fold_more}
 use Rattle.std.proofs.lemmas.Slice.Zip.{get_or-zip, length-zip}
-use Rattle.std.proofs.lemmas.List.FromFn.{length-range_with_len, get_or-range_with_len}
 use lib.ListN.{length, get_or, take, drop, length-append}
 use Rattle.lists.specs.Tab.{tab, tab-length}
-use Rattle.lists.specs.Index.{every, least}
-use Rattle.lists.specs.TestLaws.{least-found, least-none, every-at, every_ext, pick_true, pick_false, holds-each, Holds}
-use Rattle.lists.proofs.Chains.{every_list}
+use Rattle.lists.specs.Index.{least}
+use Rattle.lists.specs.TestLaws.{least-found, least-none, every-at, pick_true, pick_false, holds-each, Holds}
+use Rattle.lists.proofs.Chains.{every_range}
 use Rattle.numbers.specs.Mod.{sub}
 use Rattle.numbers.specs.Sum.{sum}
 use Rattle.numbers.proofs.Residue.{residue_first, residue_next}
@@ -62,13 +61,6 @@ v_is q m x j h e f so = sub_reduced _ _ h e f so
 
 -- ---- rows
 
--- `(0..n).all(p)` and `every`
-all_below : (p : ℕ → Bool) (n : ℕ) → list_all p (range_with_len 0 n) ≡ every n p
-all_below p n =
-    every_list p (range_with_len 0 n)
-    ∙ ap (λ (k : ℕ). every k (λ j. p (get_or (range_with_len 0 n) j 0))) (length-range_with_len 0 n)
-    ∙ every_ext n _ _ (λ j h. ap p (omega (arith, get_or-range_with_len 0 n j 0 h)))
-
 -- where row l of n rows of m numbers ends
 pub row_end : (l m n : ℕ) → l < n → l * m + m ≤ n * (m + 1)
 row_end l m n h = let e : suc l * m ≤ n * m = mul-le-mul {n₁ = suc l} {m₁ = m} {n₂ = n} {m₂ = m} h (omega arith) in omega (arith, e)
@@ -104,7 +96,7 @@ module _ (K : Key) (x : List ℕ) where
 
   pub rows_all : list_all is_row (range_with_len 0 K.n) ≡ solves K (s_at K.m x)
   unfolding solves
-  rows_all = all_below is_row K.n
+  rows_all = every_range is_row K.n
 
   pub u_is : (l : ℕ) {a row r : ℕ} → 0 < K.q → a ≡ t K l % K.q → row ≡ row_of K x l % K.q → Residue K.q (sub K.q a row) r → r ≡ u_at K x l
   unfolding u_of

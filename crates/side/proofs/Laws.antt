@@ -1,6 +1,6 @@
 -- The reply, the seed κ and part 4 of an accepted file as slices of it, and what is known of them.
 -- Assumes nothing.
-use Prim.Native.Nat.{ℕ, ◌+◌, ◌*◌, ◌-◌, ◌<◌, ◌≤◌}
+use Prim.Native.Nat.{ℕ, ◌+◌, ◌*◌, ◌<◌, ◌≤◌}
 use mathlib.Core.Path.{◌≡◌, refl, sym, ◌∙◌, ap, ap₂, subst}
 use mathlib.Core.List.{List}
 use native.Mathlib.Omega.{arith}
@@ -26,9 +26,10 @@ use Rattle.fork.specs.Fork.{Headed, accepted_headed}
 use Rattle.side.specs.Side.{Sided, Sound}
 
 pub sided : {q n m N D hid e : ℕ} {reply kappa seed entries leaves inputs work : List ℕ} {K : Key} {P : Parts} → Kept q m N D hid reply leaves work
-    → KeptIn q n m N D hid e reply kappa seed entries K P → Written K (kept_view K P e) (κ K P) P.p4 inputs → Sided K P e inputs work
-sided {q} {n} {m} {N} {D} {hid} {e} {reply} {kappa} {seed} {entries} {leaves} {inputs} {work} {K} {P} kept so w =
-    record { written = w; leaves = leaves; shown = kept.shown K P e so.sized so.deep so.hides so.at }
+    → KeptIn q n m N D hid e reply kappa seed entries K P
+    → (KeptIn q n m N D hid e reply kappa seed entries K P → Written K (kept_view K P e) (κ K P) P.p4 inputs) → Sided K P e inputs work
+sided {q} {n} {m} {N} {D} {hid} {e} {reply} {kappa} {seed} {entries} {leaves} {inputs} {work} {K} {P} kept so written =
+    record { written = written so; leaves = leaves; shown = kept.shown K P e so.sized so.deep so.hides so.at }
 
 -- ---- a kept execution of an accepted file
 module _ {k : Numbers} {entries x : List ℕ} {e hid : ℕ} (so : Sound k entries x e hid) where
@@ -73,12 +74,11 @@ module _ {k : Numbers} {entries x : List ℕ} {e hid : ℕ} (so : Sound k entrie
         pub reply_in : at + size ≤ length Q.p7
         reply_in = omega (arith, here, wide, long7, reply-within K P e k.executions so.within)
 
-        reply_slice : reply_at K P e ≡ take (at + size - at) (drop at Q.p7)
+        reply_slice : {from count : ℕ} → from ≡ at → count ≡ size → reply_at K P e ≡ take count (drop from Q.p7)
         unfolding reply_at
-        reply_slice =
-            let w : reply_size K P e ≡ at + size - at = omega (arith, wide) in
+        reply_slice f c =
             ap (λ (l : List ℕ). part l (16 + sum e (reply_size K P)) (reply_size K P e)) (part_is (λ P. P.p7))
-            ∙ ap₂ (λ (a b : ℕ). take b (drop a Q.p7)) (sym here) w
+            ∙ ap₂ (λ (a b : ℕ). take b (drop a Q.p7)) (sym (f ∙ here)) (sym (c ∙ wide))
 
         sized : Sized k.modulus.q k.m k.parties K
         sized = record { modulus = refl; columns = refl; parties = refl }
@@ -86,31 +86,33 @@ module _ {k : Numbers} {entries x : List ℕ} {e hid : ℕ} (so : Sound k entrie
         deep : depth K ≡ k.depth
         deep = sym (k.deep.is K refl)
 
-        pub reply-long : length (take (at + size - at) (drop at Q.p7)) ≡ 16 * k.depth + 32 + 4 * (k.m + 1 + last_count k.m k.parties hid)
-        reply-long =
+        -- of every slice of that size that begins no later
+        pub reply-long : (from count : ℕ) → from ≤ at → count ≡ size
+            → length (take count (drop from Q.p7)) ≡ 16 * k.depth + 32 + 4 * (k.m + 1 + last_count k.m k.parties hid)
+        reply-long from count h c =
             let w : size ≡ 16 * k.depth + 32 + 4 * (k.m + 1 + last_count k.m k.parties hid) =
             wide ∙ (size_kept K P e so.kept ∙ ap₂ (λ (a b : ℕ). 16 * a + 32 + 4 * b) deep (given_count_lem K P e sized so.hides)) in
-            omega (arith, part_length Q.p7 at (at + size - at) (omega (arith, reply_in)), w)
+            omega (arith, part_length Q.p7 from count (omega (arith, reply_in)), c, w)
 
-        pub reply_given : Given k.modulus.q k.m k.parties k.depth hid (take (at + size - at) (drop at Q.p7))
+        pub reply_given : (from count : ℕ) → from ≡ at → count ≡ size → Given k.modulus.q k.m k.parties k.depth hid (take count (drop from Q.p7))
         unfolding given
-        reply_given =
+        reply_given from count f c =
             record {
               below = λ j h.
-                  subst (λ (y : ℕ). y < k.modulus.q) (ap₂ (λ (l : List ℕ) (y : ℕ). num (given_of y l) j) reply_slice deep)
+                  subst (λ (y : ℕ). y < k.modulus.q) (ap₂ (λ (l : List ℕ) (y : ℕ). num (given_of y l) j) (reply_slice f c) deep)
                   (parts.below e so.within so.kept j (subst (λ (y : ℕ). j < y) (sym (given_count_lem K P e sized so.hides)) h));
             }
 
-        pub kept_in : {kappa seed : List ℕ} → kappa ≡ take 16 Q.p7 → seed ≡ Q.p4
-            → KeptIn k.modulus.q k.n k.m k.parties k.depth hid e (take (at + size - at) (drop at Q.p7)) kappa seed entries K P
-        kept_in ek es =
+        pub kept_in : {from count : ℕ} {kappa seed : List ℕ} → from ≡ at → count ≡ size → kappa ≡ take 16 Q.p7 → seed ≡ Q.p4
+            → KeptIn k.modulus.q k.n k.m k.parties k.depth hid e (take count (drop from Q.p7)) kappa seed entries K P
+        kept_in f c ek es =
             record {
               sized = sized;
               rows = refl;
               entry = λ j h. refl;
               deep = deep;
               hides = so.hides;
-              at = reply_slice;
+              at = reply_slice f c;
               κ_is = ap (take 16) (part_is (λ P. P.p7)) ∙ sym ek;
               l_is = part_is (λ P. P.p4) ∙ sym es;
             }

@@ -1,6 +1,7 @@
 -- `open_side` meets its contract. Assumes nothing.
 use Prim.Native.Nat.{◌≤◌}
 use mathlib.Core.Path.{◌≡◌}
+use native.Mathlib.Omega.{arith}
 use lib.ListN.{length, take}
 use borrow.Author.Rules.{rules}
 use Rattle.protocol.specs.Transcript.{parts_of}
@@ -13,7 +14,7 @@ split-parts-requires c =
     (headed c.requires.sound).good
 
 pub slice_bounds-reply-end : goal.slice_bounds-reply-end
-slice_bounds-reply-end c = reply_in c.requires.sound c.split-parts.ensures c.reply_start-at.ensures.value c.reply_length.ensures.value
+slice_bounds-reply-end c = omega (arith, reply_in c.requires.sound c.split-parts.ensures c.reply_start-at.ensures.value c.reply_length.ensures.value)
 
 pub unwrap-kappa-requires : goal.unwrap-kappa-requires
 unwrap-kappa-requires c =
@@ -26,17 +27,19 @@ unwrap-seed-requires c =
     search rules
 
 pub reopen_kept-requires-clause-reply_long : goal.reopen_kept-requires-clause-reply_long
-reopen_kept-requires-clause-reply_long c = reply-long c.requires.sound c.split-parts.ensures c.reply_start-at.ensures.value c.reply_length.ensures.value
+reopen_kept-requires-clause-reply_long c = reply-long c.requires.sound c.split-parts.ensures c.reply_start-at.ensures.value c.reply_length.ensures.value _ _ (omega arith) (omega arith)
 
 pub reopen_kept-requires-clause-given : goal.reopen_kept-requires-clause-given
-reopen_kept-requires-clause-given c = reply_given c.requires.sound c.split-parts.ensures c.reply_start-at.ensures.value c.reply_length.ensures.value
+reopen_kept-requires-clause-given c = reply_given c.requires.sound c.split-parts.ensures c.reply_start-at.ensures.value c.reply_length.ensures.value _ _ (omega arith) (omega arith)
 
 pub write-requires-clause-reply_long : goal.write-requires-clause-reply_long
-write-requires-clause-reply_long c = reply-long c.requires.sound c.split-parts.ensures c.reply_start-at.ensures.value c.reply_length.ensures.value
+write-requires-clause-reply_long c = reply-long c.requires.sound c.split-parts.ensures c.reply_start-at.ensures.value c.reply_length.ensures.value _ _ (omega arith) (omega arith)
 
 pub returns-clause-sided : goal.returns-clause-sided
 returns-clause-sided c =
     let kappa : c.unwrap-kappa.result.now ≡ take 16 c.split-parts.result.p7.now = search rules in
     let seed : c.unwrap-seed.result.now ≡ c.split-parts.result.p4.now = search rules in
-    let at = kept_in c.requires.sound c.split-parts.ensures c.reply_start-at.ensures.value c.reply_length.ensures.value kappa seed in
-    sided c.reopen_kept.ensures.kept at (c.write.ensures.written (key_with c.args.key.numbers c.args.key.entries.now) (parts_of c.args.run.now) at)
+    sided
+    c.reopen_kept.ensures.kept
+    (kept_in c.requires.sound c.split-parts.ensures c.reply_start-at.ensures.value c.reply_length.ensures.value (omega arith) (omega arith) kappa seed)
+    (c.write.ensures.written (key_with c.args.key.numbers c.args.key.entries.now) (parts_of c.args.run.now))
